@@ -1,0 +1,5 @@
+pub mod Refusals
+pub mod Rows
+pub mod Lines
+pub mod Whole
+pub mod Forms
