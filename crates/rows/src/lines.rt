@@ -3,7 +3,7 @@ ghost use mathlib.Core.Path.{_≡_};
 ghost use Prim.Native.Nat.{ℕ, _+_, _*_, _/_, _<_};
 ghost use lib.ListN.{length};
 ghost use Rattle.rows.specs.Lines.{lineAt, written};
-use crate::form::Form;
+use crate::forms::Form;
 
 // Writes `row` as line `k`, from 0.
 pub fn put_line<F: Form>(memory: &mut [u8], k: usize, row: &[u8; 750])

@@ -1,0 +1,34 @@
+// The flat form: a row's 750 bytes and nothing more.
+ghost use mathlib.Core.Path.{_≡_};
+ghost use Rattle.rows.specs.Forms.{flat, anyByte, flat-whole};
+use crate::forms::Form;
+
+pub struct Flat;
+
+pub impl Form for Flat as FlatForm {
+    ghost size = { 750 };
+
+    ghost encoded = { flat };
+
+    ghost decoded = { flat };
+
+    ghost whole = { flat-whole };
+
+    ghost good = { anyByte };
+
+    fn line_len() -> usize {
+        750
+    }
+
+    fn write(row: &[u8; 750], out: &mut [u8]) {
+        out.copy_from_slice(row);
+    }
+
+    fn read(from: &[u8], out: &mut [u8; 750]) {
+        out.copy_from_slice(from);
+    }
+
+    fn allows(_place: usize, _byte: u8) -> bool {
+        true
+    }
+}

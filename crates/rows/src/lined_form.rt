@@ -1,0 +1,42 @@
+// The lined form: a row's 750 bytes, CR, LF.
+ghost use mathlib.Core.Path.{_≡_};
+ghost use Rattle.rows.specs.Forms.{lined, unlined, linedByte, lined-whole};
+use crate::forms::Form;
+
+pub struct Lined;
+
+pub impl Form for Lined as LinedForm {
+    ghost size = { 752 };
+
+    ghost encoded = { lined };
+
+    ghost decoded = { unlined };
+
+    ghost whole = { lined-whole };
+
+    ghost good = { linedByte };
+
+    fn line_len() -> usize {
+        752
+    }
+
+    fn write(row: &[u8; 750], out: &mut [u8]) {
+        out[0..750].copy_from_slice(row);
+        out[750] = b'\r';
+        out[751] = b'\n';
+    }
+
+    fn read(from: &[u8], out: &mut [u8; 750]) {
+        out.copy_from_slice(&from[0..750]);
+    }
+
+    fn allows(place: usize, byte: u8) -> bool {
+        if place < 750 {
+            true
+        } else if place == 750 {
+            byte == b'\r'
+        } else {
+            byte == b'\n'
+        }
+    }
+}
