@@ -1,5 +1,6 @@
 -- What the calls of a source and a carrier answer, and what they leave.
 use mathlib.Core.Path.{_≡_}
+use mathlib.Core.Bool.{Bool}
 use mathlib.Core.List.{List, [], _∷_, _++_}
 use Prim.Native.Nat.{ℕ, _+_, _-_, _*_, _<_, _≤_}
 use lib.ListN.{length, getD, take}
@@ -7,7 +8,7 @@ use Rattle.std.specs.declared.result.Result.{Result}
 use Rattle.std.specs.declared.result.Result.the-variants.{Ok, Err}
 use Rattle.rows.specs.declared.faults.CarrierFault.{CarrierFault}
 use Rattle.rows.specs.Refusals.{refusal, ofCarrier}
-use Rattle.rows.specs.Lines.{written}
+use Rattle.rows.specs.Lines.{written, FirstBad}
 
 -- copy_row: the caller's bytes were `before` and are `after`
 abbrev pub Copied : List (List ℕ) → ℕ → List ℕ → List ℕ → Result (Unit {0}) CarrierFault → Type 0
@@ -46,3 +47,7 @@ Moved from before after places (Err e) = (ofCarrier e ≡ refusal 2 places 0) ×
 -- copy_all: what the memory holds, where `held` rows stood and `left` stand now
 abbrev pub MovedBytes : ℕ → (List ℕ → List ℕ) → List (List ℕ) → ℕ → List ℕ → List ℕ → ℕ → Type 0
 MovedBytes size line from held before after left = after ≡ putAll size line before held (take (left - held) from)
+
+-- open: the bytes break the form, and the fault tells where first
+abbrev pub BrokenForm : (ℕ → ℕ → Bool) → ℕ → List ℕ → CarrierFault → Type 0
+BrokenForm good size bytes e = (at : ℕ) × (ofCarrier e ≡ refusal 1 at 0) × FirstBad good size bytes at

@@ -1,18 +1,18 @@
-// A source that reads lines of a form from lent memory.
+// A source that reads lines of a form from lent bytes.
 ghost use mathlib.Core.Path.{_≡_};
-ghost use mathlib.Core.List.{List, []};
-ghost use Prim.Native.Nat.{ℕ, _+_, _*_, _/_, _%_, min};
+ghost use Prim.Native.Nat.{_/_};
 ghost use lib.ListN.{length};
 ghost use denote.Ref.{now};
-ghost use Rattle.std.specs.declared.result.Result.the-variants.{Ok, Err};
-ghost use Rattle.rows.specs.declared.faults.CarrierFault.{CarrierFault};
-ghost use Rattle.rows.specs.declared.faults.CarrierFault.the-variants.{BadForm, Full, NoSuchRow};
-ghost use Rattle.rows.specs.Lines.{rowsOf, Formed, Broken};
+ghost use Rattle.std.specs.Joined.{joined};
+ghost use Rattle.std.specs.Options.{Cases as BySome};
+ghost use Rattle.std.specs.Results.{Cases};
+ghost use Rattle.rows.specs.Lines.{opened, Whole, Formed, FirstBad, FormLaw};
+ghost use Rattle.rows.specs.Rows.{BrokenForm};
 ghost use Rattle.rows.specs.Whole.{rows-of-all};
+use crate::carriers::Source;
 use crate::faults::CarrierFault;
 use crate::forms::Form;
 use crate::lines::copy_line;
-use crate::carriers::Source;
 use std::marker::PhantomData;
 
 #[derive(Drop)]
@@ -21,38 +21,40 @@ pub struct Opened<'a, F> {
     form: PhantomData<F>,
 }
 
-// Nothing where `bytes` is whole lines of the form; otherwise the first bad byte, or the length if it is cut short.
-fn broken_at<F: Form>(bytes: &[u8]) -> Result<(), CarrierFault>
-    ensures { λ r. ⌜ elim r [ Ok u ↦ Formed (F·Form .good) (F·Form .size) (now (bytes .entry)) | Err e ↦ elim e [ BadForm at ↦ Broken (F·Form .good) (F·Form .size) (now (bytes .entry)) at | Full n ↦ ⊥ | NoSuchRow n ↦ ⊥ ] ] ⌝ }
+// The first byte that may not stand where it stands, or the length if the last line is cut short.
+fn first_bad<F: Form>(bytes: &[u8]) -> Option<usize>
+    ensures { λ r. ⌜ BySome r (Formed (F·Form .good) (F·Form .size) (now (bytes .entry))) (FirstBad (F·Form .good) (F·Form .size) (now (bytes .entry))) ⌝ }
 {
     let size = F::line_len();
     for i in 0..bytes.len() {
         if !F::allows(i % size, bytes[i]) {
-            return Err(CarrierFault::BadForm(i));
+            return Some(i);
         }
     }
     if bytes.len() % size != 0 {
-        return Err(CarrierFault::BadForm(bytes.len()));
+        return Some(bytes.len());
     }
-    Ok(())
+    None
 }
 
 impl<'a, F: Form> Opened<'a, F> {
+    // Opens bytes that are whole lines of the form: they are then what the rows that are read would be written as.
     pub fn open(bytes: &'a [u8]) -> Result<Opened<'a, F>, CarrierFault>
-        ensures { λ r. ⌜ elim r [ Ok o ↦ (now (o .bytes) ≡ now (bytes .entry)) × Formed (F·Form .good) (F·Form .size) (now (bytes .entry)) | Err e ↦ elim e [ BadForm at ↦ Broken (F·Form .good) (F·Form .size) (now (bytes .entry)) at | Full n ↦ ⊥ | NoSuchRow n ↦ ⊥ ] ] ⌝ }
+        ensures opened { λ r. ⌜ Cases r (λ o. (now (o .bytes) ≡ now (bytes .entry)) × Formed (F·Form .good) (F·Form .size) (now (bytes .entry)) × Whole (opened (F·Form .decoded) (F·Form .size) (now (bytes .entry))) × (joined (F·Form .encoded) (opened (F·Form .decoded) (F·Form .size) (now (bytes .entry))) ≡ now (bytes .entry))) (BrokenForm (F·Form .good) (F·Form .size) (now (bytes .entry))) ⌝ }
+        ensures law { λ _. ⌜ FormLaw (F·Form .size) (F·Form .encoded) (F·Form .decoded) (F·Form .good) ⌝ }
     {
-        match broken_at::<F>(bytes) {
-            Ok(()) => Ok(Opened {
+        match first_bad::<F>(bytes) {
+            Some(at) => Err(CarrierFault::BadForm(at)),
+            None => Ok(Opened {
                 bytes,
                 form: PhantomData,
             }),
-            Err(fault) => Err(fault),
         }
     }
 }
 
 pub impl<'a, F: Form> Source for Opened<'a, F> as OpenedSource {
-    ghost rows = { λ o. rowsOf (F·Form .decoded) (F·Form .size) (length (now (o .bytes)) / F·Form .size) (now (o .bytes)) };
+    ghost rows = { λ o. opened (F·Form .decoded) (F·Form .size) (now (o .bytes)) };
 
     ghost whole = { λ o. rows-of-all (F·Form .decoded) (F·Form .size) (F·Form .whole) (now (o .bytes)) };
 
