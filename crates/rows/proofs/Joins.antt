@@ -1,19 +1,23 @@
 -- Lines joined one after the other: where each lies, and that a form's lines and rows are each other's.
-use mathlib.Core.Path.{_≡_, refl, sym, ap, _∙_}
+use mathlib.Core.Path.{_≡_, refl, sym, ap, subst, _∙_}
 use mathlib.Core.List.{List, [], _∷_, _++_}
 use mathlib.Core.Bool.{Bool, true}
 use mathlib.Core.Logic.{⊎-elim}
-use Prim.Native.Nat.{ℕ, zero, suc, _+_, _-_, _*_, _/_, _%_, _<_, _≤_}
+use Prim.Native.Nat.{ℕ, zero, suc, _+_, _-_, _*_, _/_, _%_, min, _<_, _≤_}
 use native.Mathlib.Nat.{add-mul, mul-div-cancel, mul-mod-left}
 use native.Mathlib.Omega.{arith}
 use lib.ListN.{length, take, drop, getD}
 use Rattle.std.specs.Joined.{joined}
-use Rattle.std.proofs.shelf.Lists.{same-lists, ext-getD, append-assoc, length-append, length-drop, length-take-le, take-at, drop-at, drop-drop, take-append-drop, take-append-le, drop-append-le, getD-append-left, getD-append-add, getD-take, getD-drop, getD-default}
+use Rattle.std.proofs.shelf.Lists.{same-lists, ext-getD, append-assoc, length-append, length-drop, length-take-le, take-all, take-at, drop-at, drop-drop, take-append-drop, take-append-le, drop-append-le, getD-append-left, getD-append-add, getD-take, getD-drop, getD-default}
 use Rattle.std.proofs.shelf.Tests.{cases-lt}
 use Rattle.std.proofs.shelf.Bits.{div-add-mod', mod-below, mod-mul-add, mul-le}
-use Rattle.rows.specs.Lines.{lineAt, rowsOf, opened, Whole, OfBytes, Formed, FormLaw, written}
+use Rattle.rows.specs.Lines.{lineAt, rowsOf, opened, Whole, OfBytes, Formed, written}
+use Rattle.rows.specs.Laws.{FormLaw}
 use Rattle.rows.specs.Whole.{length-rowsOf, getD-rowsOf, length-lineAt, next-line, lines-fit, line-fits, rows-of-all}
-use Rattle.rows.specs.Rows.{put, putAll}
+use Rattle.std.specs.declared.result.Result.{Result}
+use Rattle.std.specs.declared.result.Result.the-variants.{Ok, Err}
+use Rattle.rows.specs.declared.faults.CarrierFault.{CarrierFault}
+use Rattle.rows.specs.Rows.{put, putAll, Moved, MovedBytes, laid, Laid}
 
 -- each row's line has `size` bytes
 abbrev pub Filled : (List ℕ → List ℕ) → ℕ → List (List ℕ) → Type 0
@@ -70,6 +74,14 @@ put-lines size line (r ∷ rs) f memory held fits =
     let last : drop ((held + 1 + length rs) * size) after ≡ drop ((held + suc (length rs)) * size) memory =
       ap (λ k. drop k after) split ∙ sym (drop-drop (length rs * size) ((held + 1) * size) after) ∙ ap (drop (length rs * size)) gone ∙ drop-drop (length rs * size) (held * size + size) memory ∙ ap (λ k. drop k memory) (let e : held * size + size + length rs * size ≡ (held + suc (length rs)) * size = omega (arith, ap (λ k. k * size) count) in e) in
     more ∙ ap (λ t. t ++ (joined line rs ++ drop ((held + 1 + length rs) * size) after)) first ∙ append-assoc front (line r) _ ∙ ap (λ t. front ++ (line r ++ (joined line rs ++ t))) last ∙ ap (λ t. front ++ t) (sym (append-assoc (line r) (joined line rs) _))
+
+-- rows put down on an empty carrier are laid from the start of its memory
+laid-first : (size : ℕ) (line : List ℕ → List ℕ) (rows : List (List ℕ)) (memory : List ℕ) → Filled line size rows → length rows ≤ length memory / size → putAll size line memory 0 rows ≡ laid size line rows memory
+laid-first size line rows memory f room =
+    let n : 0 + length rows ≡ length rows = omega arith in
+    let z : _≡_ {A = ℕ} (0 * size) 0 = omega arith in
+    let fit : (0 + length rows) * size ≤ length memory = rw n (lines-fit (length rows) size (length memory) room) in
+    put-lines size line rows f memory 0 fit ∙ ap (λ k. take k memory ++ (joined line rows ++ drop ((0 + length rows) * size) memory)) z ∙ ap (λ k. joined line rows ++ drop (k * size) memory) n
 
 -- a form whose lines have `size` bytes and go both ways keeps the form law
 module _ (size : ℕ) (encoded decoded : List ℕ → List ℕ) (good : ℕ → ℕ → Bool)
@@ -136,5 +148,38 @@ module _ (size : ℕ) (encoded decoded : List ℕ → List ℕ) (good : ℕ → 
       good-at : (bytes : List ℕ) → Formed good size bytes → (k p : ℕ) → p < size → k * size + p < length bytes → good p (getD bytes (k * size + p) 0) ≡ true
       good-at bytes formed k p b h = ap (λ q. good q (getD bytes (k * size + p) 0)) (sym (mod-mul-add k size p b)) ∙ formed .0 (k * size + p) h
 
+  pushed-back : (memory : List ℕ) (rows : List (List ℕ)) → Whole rows → OfBytes rows → length rows ≤ length memory / size → (putAll size encoded memory 0 rows ≡ laid size encoded rows memory) × (opened decoded size (take (length rows * size) (putAll size encoded memory 0 rows)) ≡ rows)
+  pushed-back memory rows w small room =
+    let f = filled-rows rows w in
+    let is = laid-first size encoded rows memory f room in
+    let front = ap (take (length rows * size)) is ∙ take-at (joined encoded rows) (drop (length rows * size) memory) (length rows * size) (length-lines encoded size rows f) in
+    (is, ap (opened decoded size) front ∙ read-back rows w small .1)
+
   pub form-law : FormLaw size encoded decoded good
-  form-law = record { read-back = read-back; written-back = written-back }
+  form-law = record { read-back = read-back; written-back = written-back; pushed-back = pushed-back }
+
+filled-take : (line : List ℕ → List ℕ) (size : ℕ) (rows : List (List ℕ)) (n : ℕ) → n ≤ length rows → Filled line size rows → Filled line size (take n rows)
+filled-take line size rows n le f = λ k h. let lt : k < n = omega (arith, length-take-le n rows le) in ap (λ r. length (line r)) (getD-take n rows k [] lt) ∙ f k (omega arith)
+
+moved-laid : (size : ℕ) (line : List ℕ → List ℕ) (from start left : List (List ℕ)) (memory after : List ℕ) (r : Result ℕ CarrierFault) → Filled line size from → length start ≡ 0 → Moved from start left (length memory / size) r → MovedBytes size line from (length start) memory after (length left) → Laid size line from memory after r
+moved-laid size line from start left memory after (Ok n) f z moved bytes =
+    let len : length left ≡ length from = omega (arith, ap length (moved .2), length-append start from) in
+    let k : length left - length start ≡ length from = omega arith in
+    (moved .0, omega (arith, moved .1), bytes ∙ ap (λ h. putAll size line memory h (take (length left - length start) from)) z ∙ ap (putAll size line memory 0) (ap (λ k. take k from) k ∙ take-all (length from) from (omega arith)) ∙ laid-first size line from memory f (omega (arith, moved .1)))
+moved-laid size line from start left memory after (Err e) f z moved bytes =
+    let places = length memory / size in
+    let free : places - length start ≡ places = omega arith in
+    let less : places < length from = omega (arith, moved .1) in
+    let cut = length-take-le places from (omega arith) in
+    let len : length left ≡ places = omega (arith, ap length (moved .2 ∙ ap (λ k. start ++ take k from) free), length-append start (take places from)) in
+    let k : length left - length start ≡ places = omega arith in
+    (moved .0, less, bytes ∙ ap (λ h. putAll size line memory h (take (length left - length start) from)) z ∙ ap (λ k. putAll size line memory 0 (take k from)) k ∙ laid-first size line (take places from) memory (filled-take line size from places (omega arith) f) (omega arith))
+
+-- a writer that held no row was handed the rows, over memory that its lender calls `lent`, and `back` when the loan ends
+pub filled-memory : (size : ℕ) (line row : List ℕ → List ℕ) (from left : List (List ℕ)) (held : ℕ) (memory after lent back : List ℕ) (r : Result ℕ CarrierFault) → Filled line size from → held ≡ 0 → memory ≡ lent → back ≡ after →
+    let start = rowsOf row size (min held (length memory / size)) memory in
+    Moved from start left (length memory / size) r → MovedBytes size line from (length start) memory after (length left) → Laid size line from lent back r
+filled-memory size line row from left held memory after lent back r f none same ended moved bytes =
+    let n = length-rowsOf row size (min held (length memory / size)) memory in
+    let done = moved-laid size line from _ left memory after r f (omega arith) moved bytes in
+    subst (λ b. Laid size line from b back r) same (subst (λ a. Laid size line from memory a r) (sym ended) done)

@@ -3,3 +3,4 @@ pub mod Rows
 pub mod Lines
 pub mod Whole
 pub mod Forms
+pub mod Laws

@@ -2,8 +2,9 @@
 use mathlib.Core.Path.{_≡_}
 use mathlib.Core.Bool.{Bool}
 use mathlib.Core.List.{List, [], _∷_, _++_}
-use Prim.Native.Nat.{ℕ, _+_, _-_, _*_, _<_, _≤_}
-use lib.ListN.{length, getD, take}
+use Prim.Native.Nat.{ℕ, _+_, _-_, _*_, _/_, _<_, _≤_}
+use lib.ListN.{length, getD, take, drop}
+use Rattle.std.specs.Joined.{joined}
 use Rattle.std.specs.declared.result.Result.{Result}
 use Rattle.std.specs.declared.result.Result.the-variants.{Ok, Err}
 use Rattle.rows.specs.declared.faults.CarrierFault.{CarrierFault}
@@ -51,3 +52,11 @@ MovedBytes size line from held before after left = after ≡ putAll size line be
 -- open: the bytes break the form, and the fault tells where first
 abbrev pub BrokenForm : (ℕ → ℕ → Bool) → ℕ → List ℕ → CarrierFault → Type 0
 BrokenForm good size bytes e = (at : ℕ) × (ofCarrier e ≡ refusal 1 at 0) × FirstBad good size bytes at
+
+-- write_all: the lines of the rows from the start of the memory on, as many as fit, and every byte after them as it was
+abbrev pub laid : ℕ → (List ℕ → List ℕ) → List (List ℕ) → List ℕ → List ℕ
+laid size line rows memory = joined line rows ++ drop (length rows * size) memory
+
+abbrev pub Laid : ℕ → (List ℕ → List ℕ) → List (List ℕ) → List ℕ → List ℕ → Result ℕ CarrierFault → Type 0
+Laid size line from before after (Ok n) = (n ≡ length from) × (length from ≤ length before / size) × (after ≡ laid size line from before)
+Laid size line from before after (Err e) = (ofCarrier e ≡ refusal 2 (length before / size) 0) × (length before / size < length from) × (after ≡ laid size line (take (length before / size) from) before)

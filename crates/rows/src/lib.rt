@@ -3,6 +3,7 @@
 mod carriers;
 mod copying;
 mod faults;
+mod filling;
 mod flat_form;
 mod forms;
 mod hexadecimal_form;
@@ -19,6 +20,10 @@ pub use copying::copy_all;
 pub use faults::CarrierFault;
 pub use faults::CarrierFaultDebug;
 pub use faults::CarrierFaultPartialEq;
+pub use filling::Filling;
+pub use filling::FlatFilling;
+pub use filling::HexadecimalFilling;
+pub use filling::LinedFilling;
 pub use flat_form::Flat;
 pub use flat_form::FlatForm;
 pub use forms::Form;

@@ -41,6 +41,7 @@ impl<'a, F: Form> Written<'a, F> {
         self.memory
     }
 
+    // Ends the loan: how many rows were written.
     pub fn finish(self) -> usize
         ensures held { λ r. ⌜ r ≡ self .entry .held ⌝ }
         ensures memory { λ _. ⌜ now (self .exit .0) ≡ now (self .entry .memory) ⌝ }

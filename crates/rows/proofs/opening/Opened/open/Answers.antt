@@ -1,5 +1,5 @@
 use mathlib.Core.Path.{refl}
-use Rattle.rows.specs.Lines.{FormLaw}
+use Rattle.rows.specs.Laws.{FormLaw}
 use Rattle.rows.proofs.Joins.{form-law}
 use Rattle.rows.proofs.opening.Opened.open.Given as given
 use Rattle.rows.proofs.opening.Opened.open.Needs as need
