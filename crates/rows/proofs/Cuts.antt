@@ -54,6 +54,13 @@ rows-more row size held bytes line r fits len back =
 pub line-read : (size real k : ℕ) (bytes : List ℕ) → real ≡ size → take (k * real + real - k * real) (drop (k * real) bytes) ≡ lineAt size bytes k
 line-read size real k bytes e = rw e (ap (λ n. take n (drop (k * size) bytes)) (omega arith))
 
+-- the line lies within the memory, and has its length
+pub line-within : (size real k len : ℕ) → real ≡ size → k < len / size → k * real + real ≤ len
+line-within size real k len e h = rw e (line-fits k size len h)
+
+pub line-length : (size real k : ℕ) (bytes : List ℕ) → real ≡ size → k < length bytes / size → length (take (k * real + real - k * real) (drop (k * real) bytes)) ≡ size
+line-length size real k bytes e h = ap length (line-read size real k bytes e) ∙ length-lineAt size bytes k (line-fits k size (length bytes) h)
+
 pub line-written : (size real k : ℕ) (bytes out line : List ℕ) → real ≡ size → out ≡ line → putMid (k * real) (k * real + real - k * real) bytes out ≡ written bytes (k * size) size line
 line-written size real k bytes out line e o =
     let n : k * size + size - k * size ≡ size = omega arith in

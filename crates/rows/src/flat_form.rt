@@ -21,11 +21,15 @@ pub impl Form for Flat as FlatForm {
     }
 
     fn write(row: &[u8; 750], out: &mut [u8]) {
-        out.copy_from_slice(row);
+        if out.len() == 750 {
+            out.copy_from_slice(row);
+        }
     }
 
     fn read(from: &[u8], out: &mut [u8; 750]) {
-        out.copy_from_slice(from);
+        if from.len() == 750 {
+            out.copy_from_slice(from);
+        }
     }
 
     fn allows(_place: usize, _byte: u8) -> bool {

@@ -1,5 +1,6 @@
 // The hexadecimal form: two digits for each byte, the high one first, then LF.
 ghost use mathlib.Core.Path.{_≡_};
+ghost use lib.ListN.{length};
 ghost use Prim.Native.Nat.{_<_};
 ghost use Rattle.rows.specs.Forms.{digit, digitValue, isDigit, hexLine, unhexed, hexByte, hex-whole};
 use crate::forms::Form;
@@ -35,6 +36,26 @@ fn to_value(byte: u8) -> u8
     }
 }
 
+fn lay(row: &[u8; 750], out: &mut [u8])
+    requires { ⌜ length (now out) ≡ 1501 ⌝ }
+    ensures { λ _. ⌜ now (out .exit) ≡ hexLine (now (row .entry)) ⌝ }
+{
+    for k in 0..750 {
+        out[2 * k] = to_digit(row[k] / 16);
+        out[2 * k + 1] = to_digit(row[k] % 16);
+    }
+    out[1500] = b'\n';
+}
+
+fn pick_up(from: &[u8], out: &mut [u8; 750])
+    requires { ⌜ length (now from) ≡ 1501 ⌝ }
+    ensures { λ _. ⌜ now (out .exit) ≡ unhexed (now (from .entry)) ⌝ }
+{
+    for k in 0..750 {
+        out[k] = to_value(from[2 * k]) * 16 + to_value(from[2 * k + 1]);
+    }
+}
+
 pub impl Form for Hexadecimal as HexadecimalForm {
     ghost size = { 1501 };
 
@@ -51,16 +72,14 @@ pub impl Form for Hexadecimal as HexadecimalForm {
     }
 
     fn write(row: &[u8; 750], out: &mut [u8]) {
-        for k in 0..750 {
-            out[2 * k] = to_digit(row[k] / 16);
-            out[2 * k + 1] = to_digit(row[k] % 16);
+        if out.len() == 1501 {
+            lay(row, out);
         }
-        out[1500] = b'\n';
     }
 
     fn read(from: &[u8], out: &mut [u8; 750]) {
-        for k in 0..750 {
-            out[k] = to_value(from[2 * k]) * 16 + to_value(from[2 * k + 1]);
+        if from.len() == 1501 {
+            pick_up(from, out);
         }
     }
 

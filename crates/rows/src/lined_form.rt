@@ -1,9 +1,19 @@
 // The lined form: a row's 750 bytes, CR, LF.
 ghost use mathlib.Core.Path.{_≡_};
+ghost use lib.ListN.{length};
 ghost use Rattle.rows.specs.Forms.{lined, unlined, linedByte, lined-whole};
 use crate::forms::Form;
 
 pub struct Lined;
+
+fn lay(row: &[u8; 750], out: &mut [u8])
+    requires { ⌜ length (now out) ≡ 752 ⌝ }
+    ensures { λ _. ⌜ now (out .exit) ≡ lined (now (row .entry)) ⌝ }
+{
+    out[0..750].copy_from_slice(row);
+    out[750] = b'\r';
+    out[751] = b'\n';
+}
 
 pub impl Form for Lined as LinedForm {
     ghost size = { 752 };
@@ -21,13 +31,15 @@ pub impl Form for Lined as LinedForm {
     }
 
     fn write(row: &[u8; 750], out: &mut [u8]) {
-        out[0..750].copy_from_slice(row);
-        out[750] = b'\r';
-        out[751] = b'\n';
+        if out.len() == 752 {
+            lay(row, out);
+        }
     }
 
     fn read(from: &[u8], out: &mut [u8; 750]) {
-        out.copy_from_slice(&from[0..750]);
+        if from.len() == 752 {
+            out.copy_from_slice(&from[0..750]);
+        }
     }
 
     fn allows(place: usize, byte: u8) -> bool {

@@ -6,7 +6,7 @@ ghost use Rattle.rows.specs.Lines.{lineAt, written};
 use crate::forms::Form;
 
 // Writes `row` as line `k`, from 0.
-pub fn put_line<F: Form>(memory: &mut [u8], k: usize, row: &[u8; 750])
+pub(crate) fn put_line<F: Form>(memory: &mut [u8], k: usize, row: &[u8; 750])
     requires { ⌜ k < length (now memory) / F·Form .size ⌝ }
     ensures { λ _. ⌜ now (memory .exit) ≡ written (now (memory .entry)) (k * F·Form .size) (F·Form .size) (F·Form .encoded (now (row .entry))) ⌝ }
 {
@@ -16,7 +16,7 @@ pub fn put_line<F: Form>(memory: &mut [u8], k: usize, row: &[u8; 750])
 }
 
 // Reads line `k`, from 0.
-pub fn copy_line<F: Form>(memory: &[u8], k: usize, out: &mut [u8; 750])
+pub(crate) fn copy_line<F: Form>(memory: &[u8], k: usize, out: &mut [u8; 750])
     requires { ⌜ k < length (now memory) / F·Form .size ⌝ }
     ensures { λ _. ⌜ now (out .exit) ≡ F·Form .decoded (lineAt (F·Form .size) (now (memory .entry)) k) ⌝ }
 {

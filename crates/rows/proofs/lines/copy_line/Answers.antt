@@ -1,23 +1,19 @@
-use mathlib.Core.Path.{_≡_, sym, ap, _∙_}
-use Prim.Native.Nat.{ℕ, _+_, _-_, _*_, _/_, _≤_, _<_}
+use mathlib.Core.Path.{ap, _∙_}
 use native.Mathlib.Omega.{arith}
-use lib.ListN.{length, take, drop}
-use Rattle.rows.proofs.Cuts.{line-read}
-use Rattle.rows.specs.Whole.{line-fits}
+use Rattle.rows.proofs.Cuts.{line-within, line-length, line-read}
 use Rattle.rows.proofs.lines.copy_line.Needs as need
 
--- the line lies within the memory
-fits : (size real k len : ℕ) → real ≡ size → k < len / size → k * real + real ≤ len
-fits size real k len e h = rw e (line-fits k size len h)
-
 pub mul-at : need.mul-at
-mul-at g c = omega (arith, fits _ _ _ _ (c .line-len-size .ensures) (c .pre))
+mul-at g c = omega (arith, line-within _ _ _ _ (c .line-len-size .ensures) (c .pre))
 
 pub add-at : need.add-at
-add-at g c = omega (arith, fits _ _ _ _ (c .line-len-size .ensures) (c .pre))
+add-at g c = omega (arith, line-within _ _ _ _ (c .line-len-size .ensures) (c .pre))
 
 pub part-read-end : need.part-read-end
-part-read-end g c = fits _ _ _ _ (c .line-len-size .ensures) (c .pre)
+part-read-end g c = line-within _ _ _ _ (c .line-len-size .ensures) (c .pre)
 
 pub returns : need.returns
-returns g c = c .read .ensures ∙ ap (g .F·Form .decoded) (line-read (g .F·Form .size) (c .line-len-size .result) (c .args .k) (c .args .memory .now) (c .line-len-size .ensures))
+returns g c =
+    let size = c .line-len-size in
+    let len = line-length (g .F·Form .size) (size .result) (c .args .k) (c .args .memory .now) (size .ensures) (c .pre) in
+    c .read .ensures .0 len ∙ ap (g .F·Form .decoded) (line-read (g .F·Form .size) (size .result) (c .args .k) (c .args .memory .now) (size .ensures))

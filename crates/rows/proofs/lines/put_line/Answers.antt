@@ -1,23 +1,19 @@
-use mathlib.Core.Path.{_≡_, sym, ap, _∙_}
-use Prim.Native.Nat.{ℕ, _+_, _-_, _*_, _/_, _≤_, _<_}
+use mathlib.Core.Path.{ap, _∙_}
 use native.Mathlib.Omega.{arith}
-use lib.ListN.{length, take, drop}
-use Rattle.rows.proofs.Cuts.{line-written}
-use Rattle.rows.specs.Whole.{line-fits}
+use Rattle.rows.proofs.Cuts.{line-within, line-length, line-written}
 use Rattle.rows.proofs.lines.put_line.Needs as need
 
--- the line lies within the memory
-fits : (size real k len : ℕ) → real ≡ size → k < len / size → k * real + real ≤ len
-fits size real k len e h = rw e (line-fits k size len h)
-
 pub mul-at : need.mul-at
-mul-at g c = omega (arith, fits _ _ _ _ (c .line-len-size .ensures) (c .pre))
+mul-at g c = omega (arith, line-within _ _ _ _ (c .line-len-size .ensures) (c .pre))
 
 pub add-at : need.add-at
-add-at g c = omega (arith, fits _ _ _ _ (c .line-len-size .ensures) (c .pre))
+add-at g c = omega (arith, line-within _ _ _ _ (c .line-len-size .ensures) (c .pre))
 
 pub part-write-end : need.part-write-end
-part-write-end g c = fits _ _ _ _ (c .line-len-size .ensures) (c .pre)
+part-write-end g c = line-within _ _ _ _ (c .line-len-size .ensures) (c .pre)
 
 pub returns : need.returns
-returns g c = line-written (g .F·Form .size) (c .line-len-size .result) (c .args .k) (c .args .memory .now) _ _ (c .line-len-size .ensures) (c .write .ensures)
+returns g c =
+    let size = c .line-len-size in
+    let len = line-length (g .F·Form .size) (size .result) (c .args .k) (c .args .memory .now) (size .ensures) (c .pre) in
+    line-written (g .F·Form .size) (size .result) (c .args .k) (c .args .memory .now) _ _ (size .ensures) (c .write .ensures .0 len)

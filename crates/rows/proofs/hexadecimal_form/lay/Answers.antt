@@ -3,7 +3,7 @@ use native.Mathlib.Omega.{arith}
 use lib.ListN.{length}
 use Rattle.std.proofs.shelf.Lists.{length-set, getD-set-same, getD-set-other}
 use Rattle.rows.proofs.FormLaws.{digits-more, hex-same}
-use Rattle.rows.proofs.hexadecimal_form.HexadecimalForm.write.Needs as need
+use Rattle.rows.proofs.hexadecimal_form.lay.Needs as need
 
 pub loop-k-again : need.loop-k-again
 loop-k-again c = digits-more (c .args .row .now) (c .loop-k .out) (c .loop-k .k) _ _ (c .loop-k .kept .out ∙ c .pre) (c .loop-k-test .taken) (c .to-digit .ensures) (c .to-digit-in-loop-k .ensures) (c .loop-k .inv)

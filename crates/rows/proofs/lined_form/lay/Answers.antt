@@ -2,7 +2,7 @@ use mathlib.Core.Path.{ap, _∙_}
 use mathlib.Core.List.{_++_}
 use lib.ListN.{set, drop}
 use Rattle.rows.proofs.FormLaws.{lined-written}
-use Rattle.rows.proofs.lined_form.LinedForm.write.Needs as need
+use Rattle.rows.proofs.lined_form.lay.Needs as need
 
 pub returns : need.returns
 returns c =

@@ -7,7 +7,7 @@ use Rattle.std.proofs.shelf.Lists.{length-set, same-lists, getD-default}
 use Rattle.std.proofs.shelf.Edits.{fill-by-more}
 use Rattle.rows.specs.Forms.{pairAt, unhexed}
 use Rattle.rows.proofs.FormLaws.{getD-unhexed, length-unhexed}
-use Rattle.rows.proofs.hexadecimal_form.HexadecimalForm.read.Needs as need
+use Rattle.rows.proofs.hexadecimal_form.pick_up.Needs as need
 
 pub loop-k-again : need.loop-k-again
 loop-k-again c =
