@@ -25,26 +25,20 @@ pub trait Filling: Form {
 pub impl Filling for Flat as FlatFilling {
     fn write_all<S: Source>(from: &S, memory: &mut [u8]) -> Result<usize, CarrierFault> {
         let mut out: Written<Flat> = Written::over(memory);
-        let moved = copy_all(from, &mut out);
-        out.finish();
-        moved
+        copy_all(from, &mut out)
     }
 }
 
 pub impl Filling for Lined as LinedFilling {
     fn write_all<S: Source>(from: &S, memory: &mut [u8]) -> Result<usize, CarrierFault> {
         let mut out: Written<Lined> = Written::over(memory);
-        let moved = copy_all(from, &mut out);
-        out.finish();
-        moved
+        copy_all(from, &mut out)
     }
 }
 
 pub impl Filling for Hexadecimal as HexadecimalFilling {
     fn write_all<S: Source>(from: &S, memory: &mut [u8]) -> Result<usize, CarrierFault> {
         let mut out: Written<Hexadecimal> = Written::over(memory);
-        let moved = copy_all(from, &mut out);
-        out.finish();
-        moved
+        copy_all(from, &mut out)
     }
 }

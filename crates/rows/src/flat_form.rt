@@ -3,6 +3,9 @@ ghost use mathlib.Core.Path.{_≡_};
 ghost use Rattle.rows.specs.Forms.{flat, anyByte, flat-whole};
 use crate::forms::Form;
 
+// The bytes of a line.
+const LINE: usize = 750;
+
 pub struct Flat;
 
 pub impl Form for Flat as FlatForm {
@@ -17,17 +20,17 @@ pub impl Form for Flat as FlatForm {
     ghost good = { anyByte };
 
     fn line_len() -> usize {
-        750
+        LINE
     }
 
     fn write(row: &[u8; 750], out: &mut [u8]) {
-        if out.len() == 750 {
+        if out.len() == LINE {
             out.copy_from_slice(row);
         }
     }
 
     fn read(from: &[u8], out: &mut [u8; 750]) {
-        if from.len() == 750 {
+        if from.len() == LINE {
             out.copy_from_slice(from);
         }
     }

@@ -5,6 +5,9 @@ ghost use Prim.Native.Nat.{_<_};
 ghost use Rattle.rows.specs.Forms.{digit, digitValue, isDigit, hexLine, unhexed, hexByte, hex-whole};
 use crate::forms::Form;
 
+// The bytes of a line.
+const LINE: usize = 1501;
+
 pub struct Hexadecimal;
 
 // The digit of a value below 16.
@@ -68,17 +71,17 @@ pub impl Form for Hexadecimal as HexadecimalForm {
     ghost good = { hexByte };
 
     fn line_len() -> usize {
-        1501
+        LINE
     }
 
     fn write(row: &[u8; 750], out: &mut [u8]) {
-        if out.len() == 1501 {
+        if out.len() == LINE {
             lay(row, out);
         }
     }
 
     fn read(from: &[u8], out: &mut [u8; 750]) {
-        if from.len() == 1501 {
+        if from.len() == LINE {
             pick_up(from, out);
         }
     }

@@ -4,6 +4,9 @@ ghost use lib.ListN.{length};
 ghost use Rattle.rows.specs.Forms.{lined, unlined, linedByte, lined-whole};
 use crate::forms::Form;
 
+// The bytes of a line.
+const LINE: usize = 752;
+
 pub struct Lined;
 
 fn lay(row: &[u8; 750], out: &mut [u8])
@@ -27,17 +30,17 @@ pub impl Form for Lined as LinedForm {
     ghost good = { linedByte };
 
     fn line_len() -> usize {
-        752
+        LINE
     }
 
     fn write(row: &[u8; 750], out: &mut [u8]) {
-        if out.len() == 752 {
+        if out.len() == LINE {
             lay(row, out);
         }
     }
 
     fn read(from: &[u8], out: &mut [u8; 750]) {
-        if from.len() == 752 {
+        if from.len() == LINE {
             out.copy_from_slice(&from[0..750]);
         }
     }

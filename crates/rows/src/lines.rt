@@ -5,6 +5,13 @@ ghost use lib.ListN.{length};
 ghost use Rattle.rows.specs.Lines.{lineAt, written};
 use crate::forms::Form;
 
+// How many whole lines there are.
+pub(crate) fn line_count<F: Form>(memory: &[u8]) -> usize
+    ensures { λ r. ⌜ r ≡ length (now (memory .entry)) / F·Form .size ⌝ }
+{
+    memory.len() / F::line_len()
+}
+
 // Writes `row` as line `k`, from 0.
 pub(crate) fn put_line<F: Form>(memory: &mut [u8], k: usize, row: &[u8; 750])
     requires { ⌜ k < length (now memory) / F·Form .size ⌝ }

@@ -14,6 +14,7 @@ use crate::carriers::Source;
 use crate::faults::CarrierFault;
 use crate::forms::Form;
 use crate::lines::copy_line;
+use crate::lines::line_count;
 use std::marker::PhantomData;
 
 #[derive(Drop)]
@@ -60,7 +61,7 @@ pub impl<'a, F: Form> Source for Opened<'a, F> as OpenedSource {
     ghost whole = { λ o. rows-of-all (F·Form .decoded) (F·Form .size) (F·Form .whole) (now (o .bytes)) };
 
     fn count(&self) -> usize {
-        self.bytes.len() / F::line_len()
+        line_count::<F>(self.bytes)
     }
 
     fn copy_row(&self, n: usize, out: &mut [u8; 750]) -> Result<(), CarrierFault> {

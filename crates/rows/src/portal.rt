@@ -58,7 +58,7 @@ pub impl<C: Carrier> Carrier for PortalStop<C> as StopCarrier {
 
     fn push(&mut self, row: &[u8; 750]) -> Result<(), CarrierFault> {
         let places = self.places();
-        if self.below.count() < places {
+        if self.count() < places {
             self.below.push(row)
         } else {
             Err(CarrierFault::Full(places))

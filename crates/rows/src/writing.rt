@@ -4,13 +4,12 @@ ghost use mathlib.Core.List.{List, [], _∷_};
 ghost use Prim.Native.Nat.{ℕ, _+_, _*_, _/_, min};
 ghost use lib.ListN.{length};
 ghost use denote.Ref.{now, name};
-ghost use Rattle.std.specs.Results.{Cases};
-ghost use Rattle.rows.specs.Rows.{Pushed};
-ghost use Rattle.rows.specs.Lines.{rowsOf, written};
+ghost use Rattle.rows.specs.Lines.{rowsOf};
 ghost use Rattle.rows.specs.Whole.{rows-whole};
 use crate::faults::CarrierFault;
 use crate::forms::Form;
 use crate::lines::copy_line;
+use crate::lines::line_count;
 use crate::lines::put_line;
 use crate::carriers::Carrier;
 use crate::carriers::Source;
@@ -40,19 +39,6 @@ impl<'a, F: Form> Written<'a, F> {
     {
         self.memory
     }
-
-    // Ends the loan: how many rows were written.
-    pub fn finish(self) -> usize
-        ensures held { λ r. ⌜ r ≡ self .entry .held ⌝ }
-        ensures memory { λ _. ⌜ now (self .exit .0) ≡ now (self .entry .memory) ⌝ }
-    {
-        let Written {
-            memory: _,
-            held,
-            form: _,
-        } = self;
-        held
-    }
 }
 
 pub impl<'a, F: Form> Source for Written<'a, F> as WrittenSource {
@@ -61,7 +47,7 @@ pub impl<'a, F: Form> Source for Written<'a, F> as WrittenSource {
     ghost whole = { λ w. rows-whole (F·Form .decoded) (F·Form .size) (F·Form .whole) (w .held) (now (w .memory)) };
 
     fn count(&self) -> usize {
-        self.held.min(self.memory.len() / F::line_len())
+        self.held.min(line_count::<F>(self.memory))
     }
 
     fn copy_row(&self, n: usize, out: &mut [u8; 750]) -> Result<(), CarrierFault> {
@@ -85,7 +71,7 @@ pub impl<'a, F: Form> Carrier for Written<'a, F> as WrittenCarrier {
     ghost lenders = { λ w. name (w .memory) ∷ [] };
 
     fn places(&self) -> usize {
-        self.memory.len() / F::line_len()
+        line_count::<F>(self.memory)
     }
 
     fn push(&mut self, row: &[u8; 750]) -> Result<(), CarrierFault> {

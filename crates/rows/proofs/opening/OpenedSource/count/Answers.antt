@@ -1,4 +1,4 @@
-use mathlib.Core.Path.{sym, ap, _∙_}
+use mathlib.Core.Path.{sym, _∙_}
 use Prim.Native.Nat.{_/_}
 use lib.ListN.{length}
 use Rattle.rows.specs.Whole.{length-rowsOf}
@@ -7,4 +7,4 @@ use Rattle.rows.proofs.opening.OpenedSource.count.Needs as need
 pub returns : need.returns
 returns g c =
     let bytes = c .args .self .now .bytes .now in
-    ap (λ s. length bytes / s) (c .line-len .ensures) ∙ sym (length-rowsOf (g .F·Form .decoded) (g .F·Form .size) (length bytes / g .F·Form .size) bytes)
+    c .line-count .ensures ∙ sym (length-rowsOf (g .F·Form .decoded) (g .F·Form .size) (length bytes / g .F·Form .size) bytes)
