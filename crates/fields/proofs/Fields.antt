@@ -21,8 +21,8 @@ use Rattle.fields.specs.Text.{padded, takeText, readText, writeText}
 use Rattle.fields.specs.Field.{Field, Sort, constant, blank, text, word, number, code, date, amount, worked, long, Family, fixed, digits, letters, longDigits, figured, family, Value, num, txt, Cell, wide, inside, fits, differs, readFixed, writeLong, asNum, asTxt, rawRead, fixedIn, numIn, txtIn, rawWrite, listed, filled, gate, readField, writeField, Field-law, One-value, Read-is-written}
 use Rattle.fields.proofs.Results.{Both, err-ok, then-ok, ok-then, past, passed}
 use Rattle.fields.proofs.Finding.{none-in, none-of, checked-ok, ok-checked}
-use Rattle.fields.proofs.Numbers.{number-law, length-printed}
-use Rattle.fields.proofs.Texts.{text-law, take-is}
+use Rattle.fields.proofs.NumberLaw.{number-law, length-printed}
+use Rattle.fields.proofs.TextLaw.{text-law, take-is}
 
 -- what passes the gate is handed on as it is
 through : (s : Sort) (required : Bool) (u v : Cell) → gate s required u ≡ Ok v → v ≡ u

@@ -1,6 +1,9 @@
 pub mod Results
 pub mod Finding
 pub mod Trim
-pub mod Numbers
-pub mod Texts
+pub mod NumberLaw
+pub mod TextLaw
 pub mod Fields
+mod Reading
+mod Writing
+mod Calendar

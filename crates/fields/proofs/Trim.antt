@@ -10,6 +10,8 @@ use lib.ListN.{length, getD, take, drop, replicate}
 use Rattle.std.proofs.shelf.Lists.{take-more, length-take-le, length-append, length-drop, drop-at, take-at, take-all, drop-all}
 use Rattle.std.proofs.shelf.Tests.{and-parts, cases-bool, eqb-true, ne-eqb, eqb-false}
 use Rattle.std.proofs.shelf.Ways.{tells}
+use borrow.Rule.Slice.PartMut.{putMid}
+use Rattle.std.specs.Holes.{between}
 use Rattle.fields.specs.Text.{textLen, trimmed, padded}
 
 pub textLen-blanks : (xs : List ℕ) (k : ℕ) → textLen (xs ++ replicate k 32) ≡ textLen xs
@@ -48,6 +50,14 @@ blanks-after (b ∷ bs) =
 pub padded-trimmed : (bs : List ℕ) → padded (length bs) (trimmed bs) ≡ bs
 padded-trimmed bs = let e = length-take-le (textLen bs) bs (textLen-le bs) in rw e (blanks-after bs)
 
+-- the loop that leaves out the last blank
+pub shorter : (bs : List ℕ) (n : ℕ) → 0 < n → n ≤ length bs → getD bs (n - 1) 0 ≡ 32 → textLen (take (n - 1) bs) ≡ textLen (take n bs)
+shorter bs n p l e =
+    let m : n - 1 + 1 ≡ n = omega arith in
+    let cut : take (n - 1 + 1) bs ≡ take (n - 1) bs ++ getD bs (n - 1) 0 ∷ [] = take-more bs (n - 1) 0 (omega arith) in
+    let cut′ : take n bs ≡ take (n - 1) bs ++ 32 ∷ [] = rw (m, e) at cut in
+    rw cut′ (sym (textLen-blanks (take (n - 1) bs) 1))
+
 pub ends : (bs : List ℕ) (n : ℕ) → 0 < n → n ≤ length bs → (getD bs (n - 1) 0 ≡ 32 → ⊥) → textLen (take n bs) ≡ n
 ends bs n p l e =
     let m : n - 1 + 1 ≡ n = omega arith in
@@ -56,3 +66,23 @@ ends bs n p l e =
     let k = length-take-le (n - 1) bs (omega arith) in
     let t = textLen-end (take (n - 1) bs) (getD bs (n - 1) 0) (ne-eqb (getD bs (n - 1) 0) 32 e) in
     rw cut′ (omega (arith, t, k))
+
+pub stop : (bs : List ℕ) (n : ℕ) → n ≤ length bs → textLen (take n bs) ≡ textLen bs → ((n ≡ 0) ⊎ ((0 < n) × (getD bs (n - 1) 0 ≡ 32 → ⊥))) → textLen bs ≡ n
+stop bs n l e w = ⊎-elim (λ z. let e′ : textLen (take 0 bs) ≡ textLen bs = rw z at e in sym e′ ∙ sym z) (λ h. sym e ∙ ends bs n (h .0) l (h .1)) w
+
+-- a text, written over the front of a field, and then blanks over the rest
+fills : (t r ys : List ℕ) → ys ≡ replicate (length (take (length (t ++ r) - length t) (drop (length t) (t ++ r)))) 32 →
+    take (length t) (t ++ r) ++ (ys ++ drop (length (t ++ r) - length t) (drop (length t) (t ++ r))) ≡ t ++ replicate (length r) 32
+fills t r ys e =
+    let m : length (t ++ r) - length t ≡ length r = omega (arith, length-append t r) in
+    let b = drop-at t r (length t) refl in
+    let e′ : ys ≡ replicate (length (take (length r) r)) 32 = rw (m, b) at e in
+    let e″ : ys ≡ replicate (length r) 32 = rw (take-all (length r) r (omega arith)) at e′ in
+    rw (take-at t r (length t) refl, m, b, drop-all (length r) r (omega arith), append-nil, e″)
+
+pub over : (t xs s ys : List ℕ) → length t ≤ length xs → s ≡ t →
+    ys ≡ replicate (length (between (length t) (length (s ++ drop (length t - 0) xs)) (s ++ drop (length t - 0) xs))) 32 →
+    putMid (length t) (length (s ++ drop (length t - 0) xs) - length t) (s ++ drop (length t - 0) xs) ys ≡ padded (length xs) t
+over t xs s ys l e r =
+    let m : length (drop (length t - 0) xs) ≡ length xs - length t = simp length-drop (omega arith) in
+    rw e (fills t (drop (length t - 0) xs) ys (rw e at r) ∙ ap (λ k. t ++ replicate k 32) m)
