@@ -7,3 +7,4 @@ pub mod Fields
 mod Reading
 mod Writing
 mod Calendar
+mod Words

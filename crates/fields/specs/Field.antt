@@ -13,7 +13,7 @@ use Rattle.fields.specs.declared.faults.Flaw.{Flaw}
 use Rattle.fields.specs.declared.faults.Flaw.the-variants.{Differs, Byte, Empty, Unfit}
 use Rattle.fields.specs.Faults.{andThen}
 use Rattle.fields.specs.Places.{someBad, checked}
-use Rattle.fields.specs.Digits.{checkDigits, readNumber, writeNumber}
+use Rattle.fields.specs.Digits.{checkDigits, printed, readNumber, writeNumber}
 use Rattle.fields.specs.Text.{padded, readText, writeText}
 use Rattle.fields.specs.Dates.{isDate}
 
@@ -143,6 +143,19 @@ rawWrite digits w v = numIn w v
 rawWrite letters w v = txtIn writeText w v
 rawWrite longDigits w v = txtIn writeLong w v
 rawWrite (figured k) w v = numIn w v
+
+-- what a content that fits is written as
+abbrev pub fixedOf : Family → List ℕ
+fixedOf (fixed c) = c
+fixedOf digits = []
+fixedOf letters = []
+fixedOf longDigits = []
+fixedOf (figured k) = []
+
+abbrev pub shown : Family → ℕ → Cell → List ℕ
+shown a w None = padded w (fixedOf a)
+shown a w (Some (num n)) = printed w n
+shown a w (Some (txt t)) = padded w t
 
 -- THE VALUE: whether the field is filled, and whether the sort's list or calendar has it
 abbrev pub anyOf : List ℕ → ℕ → Bool

@@ -7,6 +7,8 @@ use Rattle.std.specs.declared.result.Result.{Result}
 use Rattle.std.specs.declared.result.Result.the-variants.{Ok, Err}
 use Rattle.fields.specs.declared.faults.Flaw.{Flaw}
 use Rattle.fields.specs.declared.faults.Flaw.the-variants.{Differs, Byte, Empty, Unfit}
+use Rattle.fields.specs.declared.field.Content.{Content}
+use Rattle.fields.specs.declared.field.Content.the-variants.{Fixed, Number, Text}
 use Rattle.fields.specs.Faults.{Fault, fault}
 use Rattle.fields.specs.Field.{Field}
 
@@ -28,3 +30,9 @@ part f row = take (f .width) (drop (f .start - 1) row)
 -- the row with bs in their place
 abbrev pub placed : Field → List ℕ → List ℕ → List ℕ
 placed f row bs = take (f .start - 1) row ++ (bs ++ drop (f .start - 1 + f .width) row)
+
+-- the place of a text that was read
+abbrev pub LiesAt : ℕ × ℕ → Content → Type 0
+LiesAt p Fixed = Unit {0}
+LiesAt p (Number n) = Unit {0}
+LiesAt p (Text t) = t .ptr ≡ p

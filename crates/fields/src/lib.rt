@@ -6,4 +6,6 @@ mod digits;
 pub mod faults;
 pub mod field;
 pub mod laws;
+mod parts;
 mod texts;
+mod values;
