@@ -25,7 +25,7 @@ use Rattle.fields.proofs.NumberLaw.{number-law, length-printed}
 use Rattle.fields.proofs.TextLaw.{text-law, take-is}
 
 -- what passes the gate is handed on as it is
-through : (s : Sort) (required : Bool) (u v : Cell) → gate s required u ≡ Ok v → v ≡ u
+pub through : (s : Sort) (required : Bool) (u v : Cell) → gate s required u ≡ Ok v → v ≡ u
 through s required u v e = step (filled (family s) u) (listed s u) required e
   where
     step : (f l q : Bool) → cond f (cond l (Ok u) (Err Unfit)) (cond q (Err Empty) (Ok u)) ≡ Ok v → v ≡ u
@@ -96,7 +96,7 @@ txt-law read write bs law (Some (txt t)) = (
 )
 
 -- long digits
-long-is : (t u : List ℕ) → checkDigits t ≡ Ok u → u ≡ t
+pub long-is : (t u : List ℕ) → checkDigits t ≡ Ok u → u ≡ t
 long-is t u e = ok-checked noDigit Byte t u e .1
 
 long-law : (bs t : List ℕ) → Both (checkDigits bs ≡ Ok t) (writeLong (length bs) t ≡ Ok bs)

@@ -8,3 +8,5 @@ mod Reading
 mod Writing
 mod Calendar
 mod Words
+mod Offsets
+mod Framed

@@ -18,7 +18,7 @@ use Rattle.fields.proofs.Results.{Both, then-ok, ok-then, past}
 use Rattle.fields.proofs.Finding.{none-in, ok-checked}
 use Rattle.fields.proofs.Trim.{textLen-blanks, textLen-le, padded-trimmed, ends}
 
-check-is : (t u : List ℕ) → checkText t ≡ Ok u → (firstBad (badText (length t)) 0 t ≡ length t) × (u ≡ t)
+pub check-is : (t u : List ℕ) → checkText t ≡ Ok u → (firstBad (badText (length t)) 0 t ≡ length t) × (u ≡ t)
 check-is t u h = ok-checked (badText (length t)) Byte t u h
 
 pub take-is : (w : ℕ) (t u : List ℕ) → takeText w t ≡ Ok u → (ltb w (length t) ≡ false) × (checkText t ≡ Ok t) × (u ≡ t)
