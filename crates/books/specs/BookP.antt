@@ -101,11 +101,11 @@ fieldsP9 =
 abbrev pub layoutP : Layout
 layoutP = record {
   kinds =
-    kind 48 [] fieldsP0 [] ∷
-    kind 49 (codes "012") fieldsP1 conditionsP1 ∷
-    kind 50 (codes "12") fieldsP2 [] ∷
-    kind 57 (codes "012") fieldsP9 [] ∷
-    [];
+      kind 48 [] fieldsP0 [] ∷
+      kind 49 (codes "012") fieldsP1 conditionsP1 ∷
+      kind 50 (codes "12") fieldsP2 [] ∷
+      kind 57 (codes "012") fieldsP9 [] ∷
+      [];
   header = 48;
   trailer = 57;
   group = Some (record { owner = 49; follower = 50; ownerType = 7; ownerIdentifier = 9; followerIdentifier = 1; largest = 50 });

@@ -119,13 +119,13 @@ fieldsQ9 =
 abbrev pub layoutQ : Layout
 layoutQ = record {
   kinds =
-    kind 48 [] fieldsQ0 [] ∷
-    kind 49 (codes "01234") fieldsQ1 [] ∷
-    kind 50 (codes "12") fieldsQ2 [] ∷
-    kind 51 (codes "01234") fieldsQ3 [] ∷
-    kind 52 (codes "01234") fieldsQ4 [] ∷
-    kind 57 (codes "01234") fieldsQ9 [] ∷
-    [];
+      kind 48 [] fieldsQ0 [] ∷
+      kind 49 (codes "01234") fieldsQ1 [] ∷
+      kind 50 (codes "12") fieldsQ2 [] ∷
+      kind 51 (codes "01234") fieldsQ3 [] ∷
+      kind 52 (codes "01234") fieldsQ4 [] ∷
+      kind 57 (codes "01234") fieldsQ9 [] ∷
+      [];
   header = 48;
   trailer = 57;
   group = Some (record { owner = 49; follower = 50; ownerType = 8; ownerIdentifier = 11; followerIdentifier = 1; largest = 50 });

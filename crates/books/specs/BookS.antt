@@ -83,10 +83,10 @@ fieldsS9 =
 abbrev pub layoutS : Layout
 layoutS = record {
   kinds =
-    kind 48 [] fieldsS0 [] ∷
-    kind 65 (codes "0A") fieldsSA conditionsSA ∷
-    kind 57 (codes "0A") fieldsS9 [] ∷
-    [];
+      kind 48 [] fieldsS0 [] ∷
+      kind 65 (codes "0A") fieldsSA conditionsSA ∷
+      kind 57 (codes "0A") fieldsS9 [] ∷
+      [];
   header = 48;
   trailer = 57;
   group = None;

@@ -30,7 +30,7 @@ pub const INFORMATION: Kind = Kind { mark: b'2' };
 
 pub const TRAILER: Kind = Kind { mark: b'9' };
 
-
+#[rattlefmt::skip]
 static HEADER_FIELDS: [Field; 18] = [
     Field { start: 1, width: 1, sort: Sort::Constant(b"0"), required: true },
     Field { start: 2, width: 1, sort: Sort::Constant(b"1"), required: true },
@@ -50,8 +50,9 @@ static HEADER_FIELDS: [Field; 18] = [
     Field { start: 254, width: 488, sort: Sort::Blank, required: false },
     Field { start: 742, width: 3, sort: Sort::Constant(b"001"), required: true },
     Field { start: 745, width: 6, sort: Sort::Worked(Working::RowNumber), required: true },
-]; 
+];
 
+#[rattlefmt::skip]
 static CHARGE_FIELDS: [Field; 26] = [
     Field { start: 1, width: 1, sort: Sort::Constant(b"1"), required: true },
     Field { start: 2, width: 2, sort: Sort::Code(&[1, 2]), required: true },
@@ -83,28 +84,41 @@ static CHARGE_FIELDS: [Field; 26] = [
 
 // Fields of a charge.
 const KEY: usize = 6;
+
 const CHARGE_TYPE: usize = 7;
+
 const OCCURRENCE: usize = 8;
+
 const IDENTIFIER: usize = 9;
+
 const ORIGINAL_VALUE: usize = 13;
+
 const INTEREST: usize = 14;
+
 const FINE: usize = 15;
+
 const DISCOUNT: usize = 16;
+
 const DEBTOR_NUMBER: usize = 19;
+
 const DEBTOR_NAME: usize = 20;
+
 const FREE_TEXT: usize = 21;
 
 // Charge types.
 const STATIC: u64 = 1;
+
 const DYNAMIC: u64 = 2;
 
 // Occurrences.
 const DELETE: u64 = 2;
+
 const CHANGE: u64 = 4;
 
 // A QR code has 99 bytes for key and free text, 22 of them taken.
 const KEY_AND_TEXT: usize = 77;
 
+#[rattlefmt::skip]
 static CHARGE_CONDITIONS: [Condition; 10] = [
     Condition { premise: Premise::IfCode(CHARGE_TYPE, DYNAMIC), claim: Claim::IsFilled(IDENTIFIER) },
     Condition { premise: Premise::IfCode(CHARGE_TYPE, DYNAMIC), claim: Claim::IsFilled(ORIGINAL_VALUE) },
@@ -118,6 +132,7 @@ static CHARGE_CONDITIONS: [Condition; 10] = [
     Condition { premise: Premise::IfCode(CHARGE_TYPE, STATIC), claim: Claim::ShortBoth(KEY, FREE_TEXT, KEY_AND_TEXT) },
 ];
 
+#[rattlefmt::skip]
 static INFORMATION_FIELDS: [Field; 10] = [
     Field { start: 1, width: 1, sort: Sort::Constant(b"2"), required: true },
     Field { start: 2, width: 35, sort: Sort::Text, required: false },
@@ -134,6 +149,7 @@ static INFORMATION_FIELDS: [Field; 10] = [
 // The identifier among the fields of an information row.
 const OWNER_IDENTIFIER: usize = 1;
 
+#[rattlefmt::skip]
 static TRAILER_FIELDS: [Field; 5] = [
     Field { start: 1, width: 1, sort: Sort::Constant(b"9"), required: true },
     Field { start: 2, width: 711, sort: Sort::Blank, required: false },

@@ -312,11 +312,11 @@ word! w u e =
 content! : (f : Field) → content? (f .sort) (f .width) ≡ true → Contents f
 content! f e = record {
   constants = λ c is.
-    let t : (printable? c && leb (length c) (f .width)) ≡ true = subst (λ s. content? s (f .width) ≡ true) is e in
-    let q = and-parts (printable? c) (leb (length c) (f .width)) t in
-    (printable! c (q .0), leb-true (length c) (f .width) (q .1));
+      let t : (printable? c && leb (length c) (f .width)) ≡ true = subst (λ s. content? s (f .width) ≡ true) is e in
+      let q = and-parts (printable? c) (leb (length c) (f .width)) t in
+      (printable! c (q .0), leb-true (length c) (f .width) (q .1));
   words = λ us is.
-    all! _ (λ u. printable? u && (leb (length u) (f .width) && noOuterBlank? u)) (word! (f .width)) us (subst (λ s. content? s (f .width) ≡ true) is e);
+      all! _ (λ u. printable? u && (leb (length u) (f .width) && noOuterBlank? u)) (word! (f .width)) us (subst (λ s. content? s (f .width) ≡ true) is e);
 }
 
 text! : (s : Sort) → isText? s ≡ true → s ≡ text
@@ -409,13 +409,13 @@ kind! l k e =
       widths = all! (λ f. Wide (f .sort) (f .width)) (λ f. wide? (f .sort) (f .width)) (λ f. wide! (f .sort) (f .width)) (k .fields) (d .0);
       contents = all! Contents (λ f. content? (f .sort) (f .width)) content! (k .fields) (f .0);
       conditions = all! (λ c. NamesPremise (k .fields) (c .premise) × NamesClaim (k .fields) (c .claim)) (λ c. premise? (k .fields) (c .premise) && claim? (k .fields) (c .claim))
-        (λ c t. let q = and-parts (premise? (k .fields) (c .premise)) (claim? (k .fields) (c .claim)) t in (premise! (k .fields) (c .premise) (q .0), claim! (k .fields) (c .claim) (q .1))) (k .conditions) (g .0);
+          (λ c t. let q = and-parts (premise? (k .fields) (c .premise)) (claim? (k .fields) (c .claim)) t in (premise! (k .fields) (c .premise) (q .0), claim! (k .fields) (c .claim) (q .1))) (k .conditions) (g .0);
       totals = all! (λ f. f .sort ≡ worked total → k .mark ≡ l .trailer) (λ f. not (isWorked (sameWorking total) (f .sort)) || eqb (k .mark) (l .trailer))
-        (λ f t is. eqb-true (k .mark) (l .trailer) (only (isWorked (sameWorking total)) (f .sort) (worked total) (eqb (k .mark) (l .trailer)) refl t is)) (k .fields) (h .0);
+          (λ f t is. eqb-true (k .mark) (l .trailer) (only (isWorked (sameWorking total)) (f .sort) (worked total) (eqb (k .mark) (l .trailer)) refl t is)) (k .fields) (h .0);
       counts = all! (λ f. f .sort ≡ worked count → k .mark ≡ l .trailer) (λ f. not (isWorked (sameWorking count) (f .sort)) || eqb (k .mark) (l .trailer))
-        (λ f t is. eqb-true (k .mark) (l .trailer) (only (isWorked (sameWorking count)) (f .sort) (worked count) (eqb (k .mark) (l .trailer)) refl t is)) (k .fields) (i .0);
+          (λ f t is. eqb-true (k .mark) (l .trailer) (only (isWorked (sameWorking count)) (f .sort) (worked count) (eqb (k .mark) (l .trailer)) refl t is)) (k .fields) (i .0);
       owners = all! (λ f. f .sort ≡ worked ownerNumber → (g : Group) × (l .group ≡ Some g) × (k .mark ≡ g .follower)) (λ f. not (isWorked (sameWorking ownerNumber) (f .sort)) || isFollower? (l .group) (k .mark))
-        (λ f t is. follower! (l .group) (k .mark) (only (isWorked (sameWorking ownerNumber)) (f .sort) (worked ownerNumber) (isFollower? (l .group) (k .mark)) refl t is)) (k .fields) (j .0);
+          (λ f t is. follower! (l .group) (k .mark) (only (isWorked (sameWorking ownerNumber)) (f .sort) (worked ownerNumber) (isFollower? (l .group) (k .mark)) refl t is)) (k .fields) (j .0);
       after = all! (λ m. Apart m (l .trailer)) (λ m. not (eqb m (l .trailer))) (λ m. apart! m (l .trailer)) (k .after) (j .1);
     }
 
@@ -435,7 +435,7 @@ group! l g e =
       kinds = (has! _ (a .0), has! _ (b .0));
       inside = (apart! (g .follower) (l .header) (c .0), apart! (g .follower) (l .trailer) (d .0));
       stands = all! (λ m. (m ≡ g .owner) ⊎ (m ≡ g .follower)) (λ m. eqb m (g .owner) || eqb m (g .follower))
-        (λ m t. ⊎-elim (λ x. inl (eqb-true m (g .owner) x)) (λ y. inr (eqb-true m (g .follower) y)) (or-cases (eqb m (g .owner)) (eqb m (g .follower)) t)) (follower .after) (f .0);
+          (λ m t. ⊎-elim (λ x. inl (eqb-true m (g .owner) x)) (λ y. inr (eqb-true m (g .follower) y)) (or-cases (eqb m (g .owner)) (eqb m (g .follower)) t)) (follower .after) (f .0);
       ownerText = names! (λ s. s ≡ text) isText? text! (owner .fields) (g .ownerIdentifier) (h .0);
       followerText = names! (λ s. s ≡ text) isText? text! (follower .fields) (g .followerIdentifier) (i .0);
       oneWidth = eqb-true _ _ (j .0);
@@ -466,9 +466,9 @@ lawful! l e =
       marks = marks! (l .kinds) (b .0);
       group = λ g is. group! l g (subst (λ o. group? l o ≡ true) is (c .0));
       summed = λ p is.
-        let t : (has? (found (p .kind) (l .kinds)) && names? (kindOf l (p .kind) .fields) (p .field) isAmount?) ≡ true = subst (λ o. summed? l o ≡ true) is (d .0) in
-        let q = and-parts (has? (found (p .kind) (l .kinds))) (names? (kindOf l (p .kind) .fields) (p .field) isAmount?) t in
-        (has! _ (q .0), names! (λ s. s ≡ amount) isAmount? amount! (kindOf l (p .kind) .fields) (p .field) (q .1));
+          let t : (has? (found (p .kind) (l .kinds)) && names? (kindOf l (p .kind) .fields) (p .field) isAmount?) ≡ true = subst (λ o. summed? l o ≡ true) is (d .0) in
+          let q = and-parts (has? (found (p .kind) (l .kinds))) (names? (kindOf l (p .kind) .fields) (p .field) isAmount?) t in
+          (has! _ (q .0), names! (λ s. s ≡ amount) isAmount? amount! (kindOf l (p .kind) .fields) (p .field) (q .1));
       header = (has! _ (f .0), none! (kindOf l (l .header) .after) (g .0));
       trailer = (has! _ (h .0), apart! (l .header) (l .trailer) (h .1));
     }
