@@ -1,8 +1,8 @@
 // What one field can be refused for.
 ghost use mathlib.Core.Path.{_≡_};
 ghost use Rattle.fields.specs.Faults.{ofField};
-use rows::refusals::Layer;
-use rows::refusals::Refusal;
+use rows::Layer;
+use rows::Refusal;
 
 // A fault inside a field, before its place in the row is known. An offset counts the field's bytes from 0.
 #[derive(Clone, Copy, PartialEq, Eq, Debug)]
