@@ -11,7 +11,7 @@ use Rattle.std.proofs.shelf.Lists.{at-drop-more, at-drop-all}
 use Rattle.std.proofs.shelf.Tests.{cases-bool, ltb-false, le-ltb}
 use Rattle.std.specs.declared.result.Result.{Result}
 use Rattle.std.specs.declared.result.Result.the-variants.{Ok, Err}
-use Rattle.fields.specs.declared.faults.Flaw.{Flaw}
+use Rattle.fields.specs.declared.flaws.Flaw.{Flaw}
 use Rattle.fields.specs.Places.{firstBad, someBad, checked}
 use Rattle.fields.proofs.Results.{past}
 

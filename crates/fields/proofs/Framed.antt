@@ -12,8 +12,9 @@ use Rattle.std.proofs.shelf.Tests.{and-parts, leb-true}
 use Rattle.std.specs.declared.option.Option.the-variants.{Some, None}
 use Rattle.std.specs.declared.result.Result.{Result}
 use Rattle.std.specs.declared.result.Result.the-variants.{Ok, Err}
-use Rattle.fields.specs.declared.faults.Flaw.{Flaw}
-use Rattle.fields.specs.declared.faults.Flaw.the-variants.{Differs, Unfit}
+use Rattle.rows.specs.declared.refusals.Refusal.{Refusal}
+use Rattle.fields.specs.declared.flaws.Flaw.{Flaw}
+use Rattle.fields.specs.declared.flaws.Flaw.the-variants.{Differs, Unfit}
 use Rattle.fields.specs.declared.field.Content.{Content}
 use Rattle.fields.specs.declared.field.Content.the-variants.{Fixed, Number, Text}
 use Rattle.fields.specs.Faults.{inRow, faultIn}
@@ -101,5 +102,5 @@ read-err f row k flaw e h = subst (λ k. readField f (take k (drop (f .start - 1
 pub told-ok : {A : Type 0} (f : Field) (n : ℕ) (r : Result A Flaw) (x : A) → r ≡ Ok x → None ≡ inRow n (faultIn (atField f r))
 told-ok f n r x e = ap (λ r. inRow n (faultIn (atField f r))) (sym e)
 
-pub told-err : {A : Type 0} (f : Field) (n : ℕ) (r : Result A Flaw) (e : Flaw) → r ≡ Err e → inRow n (Some (located f e)) ≡ inRow n (faultIn (atField f r))
-told-err f n r x e = ap (λ r. inRow n (faultIn (atField f r))) (sym e)
+pub told-err : {A : Type 0} (f : Field) (n : ℕ) (r : Result A Flaw) (flaw : Flaw) (told : Refusal) → r ≡ Err flaw → Some told ≡ inRow n (Some (located f flaw)) → Some told ≡ inRow n (faultIn (atField f r))
+told-err f n r flaw told e t = subst (λ r. Some told ≡ inRow n (faultIn (atField f r))) (sym e) t

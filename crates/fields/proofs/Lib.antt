@@ -7,6 +7,6 @@ pub mod Fields
 mod Reading
 mod Writing
 mod Calendar
-mod Words
+mod Lists
 mod Offsets
 mod Framed

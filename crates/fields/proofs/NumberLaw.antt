@@ -13,7 +13,7 @@ use Rattle.std.specs.shelf.Lists.{All}
 use Rattle.std.proofs.shelf.Tests.{le-leb, and-from, and-parts, leb-true, not-false, not-from-true, lt-ltb, ltb-true, cases-bool}
 use Rattle.std.specs.declared.result.Result.{Result}
 use Rattle.std.specs.declared.result.Result.the-variants.{Ok, Err}
-use Rattle.fields.specs.declared.faults.Flaw.the-variants.{Byte, Unfit}
+use Rattle.fields.specs.declared.flaws.Flaw.the-variants.{Byte, Unfit}
 use Rattle.fields.specs.Places.{firstBad}
 use Rattle.fields.specs.Digits.{digit, noDigit, checkDigits, value, printed, readNumber, writeNumber}
 use Rattle.fields.proofs.Results.{Both, then-ok, passed}

@@ -11,7 +11,7 @@ use Rattle.std.proofs.shelf.Lists.{take-all, take-at, length-take-le}
 use Rattle.std.proofs.shelf.Tests.{le-ltb, cases-lt}
 use Rattle.std.proofs.shelf.Ways.{tells}
 use Rattle.std.specs.declared.result.Result.the-variants.{Ok, Err}
-use Rattle.fields.specs.declared.faults.Flaw.the-variants.{Byte, Unfit}
+use Rattle.fields.specs.declared.flaws.Flaw.the-variants.{Byte, Unfit}
 use Rattle.fields.specs.Places.{firstBad}
 use Rattle.fields.specs.Text.{badText, textLen, trimmed, padded, checkText, takeText, readText, writeText}
 use Rattle.fields.proofs.Results.{Both, then-ok, ok-then, past}

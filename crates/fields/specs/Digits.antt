@@ -6,8 +6,8 @@ use lib.Dec.{leb, ltb}
 use lib.ListN.{length}
 use Rattle.std.specs.declared.result.Result.{Result}
 use Rattle.std.specs.declared.result.Result.the-variants.{Ok, Err}
-use Rattle.fields.specs.declared.faults.Flaw.{Flaw}
-use Rattle.fields.specs.declared.faults.Flaw.the-variants.{Byte, Unfit}
+use Rattle.fields.specs.declared.flaws.Flaw.{Flaw}
+use Rattle.fields.specs.declared.flaws.Flaw.the-variants.{Byte, Unfit}
 use Rattle.fields.specs.Faults.{andThen}
 use Rattle.fields.specs.Places.{checked}
 

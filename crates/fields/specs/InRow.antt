@@ -5,8 +5,8 @@ use Prim.Native.Nat.{ℕ, _+_, _-_}
 use lib.ListN.{length, take, drop}
 use Rattle.std.specs.declared.result.Result.{Result}
 use Rattle.std.specs.declared.result.Result.the-variants.{Ok, Err}
-use Rattle.fields.specs.declared.faults.Flaw.{Flaw}
-use Rattle.fields.specs.declared.faults.Flaw.the-variants.{Differs, Byte, Empty, Unfit}
+use Rattle.fields.specs.declared.flaws.Flaw.{Flaw}
+use Rattle.fields.specs.declared.flaws.Flaw.the-variants.{Differs, Byte, Empty, Unfit}
 use Rattle.fields.specs.declared.field.Content.{Content}
 use Rattle.fields.specs.declared.field.Content.the-variants.{Fixed, Number, Text}
 use Rattle.fields.specs.Faults.{Fault, fault}

@@ -6,7 +6,7 @@ use lib.Dec.{ltb}
 use lib.ListN.{length}
 use Rattle.std.specs.declared.result.Result.{Result}
 use Rattle.std.specs.declared.result.Result.the-variants.{Ok, Err}
-use Rattle.fields.specs.declared.faults.Flaw.{Flaw}
+use Rattle.fields.specs.declared.flaws.Flaw.{Flaw}
 
 -- the first bad place, counted from k, or the place after the last
 abbrev pub firstBad : (ℕ → ℕ → Bool) → ℕ → List ℕ → ℕ

@@ -7,12 +7,12 @@ ghost use denote.Ref.{now};
 ghost use Rattle.std.specs.Results.{Cases};
 ghost use Rattle.std.specs.declared.option.Option.the-variants.{None};
 ghost use Rattle.std.specs.declared.result.Result.the-variants.{Ok, Err};
-ghost use Rattle.fields.specs.declared.faults.Flaw.the-variants.{Byte};
+ghost use Rattle.fields.specs.declared.flaws.Flaw.the-variants.{Byte};
 ghost use Rattle.fields.specs.Places.{firstBad, someBad, checked};
 ghost use Rattle.fields.specs.Digits.{noDigit, checkDigits};
 ghost use Rattle.fields.specs.Text.{badText, checkText};
 ghost use Rattle.fields.specs.Field.{differs, readFixed, noZero};
-use crate::faults::Flaw;
+use crate::flaws::Flaw;
 
 // What the bytes of a field have to be.
 trait Rule {

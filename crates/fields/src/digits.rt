@@ -6,7 +6,7 @@ ghost use Rattle.std.specs.Results.{Cases};
 ghost use Rattle.std.specs.declared.result.Result.the-variants.{Ok, Err};
 ghost use Rattle.fields.specs.Digits.{checkDigits, value, printed, readNumber};
 use crate::bytes::check_digits;
-use crate::faults::Flaw;
+use crate::flaws::Flaw;
 
 // The number that digits write: 18 of them fit 64 bits.
 fn number_of(digits: &[u8]) -> u64

@@ -4,25 +4,16 @@ ghost use Rattle.fields.specs.Faults.{ofField};
 use rows::Layer;
 use rows::Refusal;
 
-// A fault inside a field, before its place in the row is known. An offset counts the field's bytes from 0.
-#[derive(Clone, Copy, PartialEq, Eq, Debug)]
-pub enum Flaw {
-    // A constant or a blank differs.
-    Differs(usize),
-    // A byte outside the sort, or a text's first or last byte a blank.
-    Byte(usize),
-    // Required and not filled.
-    Empty,
-    // Wrong length, too large, no such code, word or date.
-    Unfit,
-}
-
-// The same, with the row and the position.
+// Each case has the row and the position, from 1.
 #[derive(Clone, Copy, PartialEq, Eq, Debug)]
 pub enum FieldFault {
+    // A byte outside the sort, or a text's first or last byte a blank: the first such position.
     BadByte { row: usize, position: usize },
+    // Required and not filled: the field's start.
     NotFilled { row: usize, position: usize },
+    // Wrong length, too large, no such code, word or date: the field's start.
     Unfit { row: usize, position: usize },
+    // A constant or a blank differs: the first differing position.
     Differs { row: usize, position: usize },
 }
 

@@ -9,11 +9,11 @@ ghost use Rattle.fields.specs.Field.{wide, fits, readField, writeField};
 ghost use Rattle.fields.specs.InRow.{offset, located, atField, part, ReadAs, WrittenAs};
 ghost use Rattle.fields.specs.Meaning.{sortOf, fieldOf, cellOf};
 use crate::faults::FieldFault;
-use crate::faults::Flaw;
 use crate::field::Content;
 use crate::field::Field;
 use crate::field::Sort;
 use crate::field::Working;
+use crate::flaws::Flaw;
 use crate::parts::read_part;
 use crate::parts::write_part;
 

@@ -5,6 +5,7 @@ pub mod dates;
 mod digits;
 pub mod faults;
 pub mod field;
+mod flaws;
 pub mod in_row;
 pub mod laws;
 mod parts;

@@ -6,7 +6,7 @@ ghost use Rattle.std.specs.Results.{Cases};
 ghost use Rattle.std.specs.declared.result.Result.the-variants.{Ok, Err};
 ghost use Rattle.fields.specs.Text.{textLen, trimmed, padded, readText};
 use crate::bytes::check_text;
-use crate::faults::Flaw;
+use crate::flaws::Flaw;
 
 // The field without the blanks at its end.
 fn trim(field: &[u8]) -> &[u8]

@@ -7,9 +7,9 @@ ghost use Rattle.fields.specs.Field.{anyOf, oneOf, same, filled, listed, gate,
 ghost use Rattle.fields.specs.Meaning.{sortOf, cellOf};
 use crate::bytes::has_nonzero;
 use crate::dates::is_date;
-use crate::faults::Flaw;
 use crate::field::Content;
 use crate::field::Sort;
+use crate::flaws::Flaw;
 
 fn has_code(codes: &[u64], number: u64) -> bool
     ensures { λ r. ⌜ r ≡ anyOf (now (codes .entry)) number ⌝ }

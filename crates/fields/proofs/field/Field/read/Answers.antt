@@ -1,6 +1,7 @@
-use mathlib.Core.Path.{sym, _∙_}
+use mathlib.Core.Path.{sym}
 use Prim.Native.Nat.{_+_, _-_}
 use native.Mathlib.Omega.{arith}
+use Rattle.fields.specs.Faults.{ofField}
 use Rattle.fields.specs.Field.{readField}
 use Rattle.fields.specs.InRow.{part}
 use Rattle.fields.specs.Meaning.{fieldOf, cellOf}
@@ -32,4 +33,4 @@ returns-in-Err c =
     let row = c .args .row .now in
     let a = c .args .self .start - 1 in
     let no = read-err f row (a + c .args .self .width - a) (c .in-Err .flaw) (omega arith) (c .in-Err .ensures tt) in
-    record { refused = c .fault-in-Err .ensures ∙ told-err f (c .args .row-number) (readField f (part f row)) (c .in-Err .flaw) no; held = tt }
+    record { refused = told-err f (c .args .row-number) (readField f (part f row)) (c .in-Err .flaw) (ofField (c .fault-in-Err .result)) no (c .fault-in-Err .ensures); held = tt }

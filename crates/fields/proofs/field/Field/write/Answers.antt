@@ -2,6 +2,7 @@ use mathlib.Core.Path.{sym, ap, _∙_}
 use Prim.Native.Nat.{_+_, _-_}
 use native.Mathlib.Omega.{arith}
 use borrow.Rule.Slice.PartMut.{putMid, put-same}
+use Rattle.fields.specs.Faults.{ofField}
 use Rattle.fields.specs.Field.{writeField}
 use Rattle.fields.specs.Meaning.{fieldOf, cellOf}
 use Rattle.fields.proofs.Offsets.{write-within}
@@ -31,6 +32,6 @@ returns-in-Err c =
     let k = a + c .args .self .width - a in
     let no = c .in-Err .ensures tt in
     record {
-      refused = c .fault-in-Err .ensures ∙ told-err f (c .args .row-number) (writeField f (cellOf (c .args .content))) (c .in-Err .flaw) (no .0);
+      refused = told-err f (c .args .row-number) (writeField f (cellOf (c .args .content))) (c .in-Err .flaw) (ofField (c .fault-in-Err .result)) (no .0) (c .fault-in-Err .ensures);
       written = ap (putMid a k (c .args .row .now)) (no .1) ∙ put-same a k (c .args .row .now);
     }
