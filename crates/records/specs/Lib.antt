@@ -1,0 +1,4 @@
+pub mod Cells
+pub mod Conditions
+pub mod Row
+pub mod Entries
