@@ -1,2 +1,3 @@
-mod Spreads
 mod Single
+mod Spreads
+mod Tabled

@@ -165,21 +165,9 @@ pub fn put_field(
 pub fn put_heading(out: &mut Vec<u8>, letter: u8, mark: u8, title: &str) -> Result<(), AllocError>
     ensures { λ r. ⌜ made r (λ _. vec-items (now (out .exit)) ≡ vec-items (now (out .entry)) ++ heading letter mark (now (title .entry))) ⌝ }
 {
-    let lead = [
-        b'#',
-        b' ',
-        letter,
-        b' ',
-        b'k',
-        b'i',
-        b'n',
-        b'd',
-        b' ',
-        mark,
-        b' ',
-        b'-',
-        b' ',
-    ];
+    let mut lead = *b"# P kind 0 - ";
+    lead[2] = letter;
+    lead[9] = mark;
     out.extend_from_slice(&lead)?;
     put_end(out, title)
 }

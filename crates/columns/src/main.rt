@@ -6,12 +6,11 @@ mod words;
 use crate::tables::put_table;
 use crate::words::letter_in;
 use books::letters::Letter;
-use books::letters::LetterDebug;
 use std::env;
 use std::error::AnyError;
 use std::io::Write;
 
-const USAGE: &str = "usage: columns LETTER.. (each P, Q or S)";
+const USAGE: &str = "usage: columns LETTER.. (P, Q or S)";
 
 // All letters are read before anything is printed.
 fn letters(rt: &LibcRuntime) -> Result<Vec<Letter>, AnyError> {
@@ -39,5 +38,9 @@ fn run(rt: &LibcRuntime) -> Result<(), AnyError> {
 }
 
 fn main(rt: LibcRuntime) -> Result<(), AnyError> {
-    rt.report(run(&rt))
+    let done = run(&rt);
+    if let Err(fault) = &done {
+        eprintln!(rt, "{fault}")?;
+    }
+    done
 }

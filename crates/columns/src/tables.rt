@@ -1,4 +1,9 @@
 // The table of a book.
+ghost use Rattle.std.specs.Of.Vec.{vec-items};
+ghost use Rattle.std.specs.Vec.{made};
+ghost use Rattle.layouts.specs.Layout.{kindOf};
+ghost use Rattle.books.specs.Letters.{byteOf, layoutOf};
+ghost use Rattle.columns.specs.Tables.{KindText, TableText, Wrote};
 use crate::lines::put_field;
 use crate::lines::put_heading;
 use books::letters::Letter;
@@ -27,7 +32,9 @@ fn put_kind<B: Book + Named>(
     letter: u8,
     book: &B,
     kind: Kind,
-) -> Result<(), AllocError> {
+) -> Result<(), AllocError>
+    ensures { λ r. ⌜ made r (λ _. Wrote (vec-items (now (out .entry))) (vec-items (now (out .exit))) (KindText letter (kind .mark) (kindOf (B·Meant .meaning) (kind .mark) .fields))) ⌝ }
+{
     put_heading(out, letter, kind.mark, book.title(kind))?;
     let fields = book.fields(kind);
     let names = book.names(kind);
@@ -42,14 +49,18 @@ fn put_book<B: Book + Named>(
     out: &mut Vec<u8>,
     letter: u8,
     book: &B,
-) -> Result<(), AllocError> {
+) -> Result<(), AllocError>
+    ensures { λ r. ⌜ made r (λ _. Wrote (vec-items (now (out .entry))) (vec-items (now (out .exit))) (TableText letter (B·Meant .meaning))) ⌝ }
+{
     for kind in book.kinds() {
         put_kind(heap, out, letter, book, *kind)?;
     }
     Ok(())
 }
 
-pub fn put_table(heap: Global, out: &mut Vec<u8>, letter: Letter) -> Result<(), AllocError> {
+pub fn put_table(heap: Global, out: &mut Vec<u8>, letter: Letter) -> Result<(), AllocError>
+    ensures { λ r. ⌜ made r (λ _. Wrote (vec-items (now (out .entry))) (vec-items (now (out .exit))) (TableText (byteOf letter) (layoutOf letter))) ⌝ }
+{
     match letter {
         Letter::P => put_book(heap, out, letter.byte(), &OutgoingReceipts),
         Letter::Q => put_book(heap, out, letter.byte(), &ReturnedReceipts),
