@@ -15,6 +15,12 @@ pub struct Cents {
 impl Cents {
     pub const LIMIT: u64 = 100_000_000_000_000_000;
 
+    pub fn zero() -> Cents
+        ensures { λ r. ⌜ r .value ≡ 0 ⌝ }
+    {
+        Cents { value: 0 }
+    }
+
     // Nothing from 10^17 on.
     pub fn new(value: u64) -> Option<Cents>
         ensures { λ r. ⌜ BySome r (10 ^ 17 ≤ value) (λ c. c .value ≡ value) ⌝ }

@@ -5,7 +5,7 @@ ghost use Rattle.std.specs.Results.{Cases};
 ghost use Rattle.std.specs.Vec.{made};
 ghost use Rattle.std.specs.declared.option.Option.the-variants.{Some};
 ghost use Rattle.fields.specs.Faults.{ofField, refusalIn, inRow, faultIn};
-ghost use Rattle.fields.specs.Field.{wide, fits, readField, writeField};
+ghost use Rattle.fields.specs.Field.{family, filled, wide, fits, readField, writeField};
 ghost use Rattle.fields.specs.InRow.{offset, located, atField, part, ReadAs, WrittenAs};
 ghost use Rattle.fields.specs.Meaning.{sortOf, fieldOf, cellOf};
 use crate::faults::FieldFault;
@@ -16,6 +16,7 @@ use crate::field::Working;
 use crate::flaws::Flaw;
 use crate::parts::read_part;
 use crate::parts::write_part;
+use crate::values::is_filled;
 
 // Whether a width is one of the sort.
 fn is_wide(sort: Sort, width: usize) -> bool
@@ -43,6 +44,13 @@ impl Field {
             && self.width <= 750
             && self.start <= 751 - self.width
             && is_wide(self.sort, self.width)
+    }
+
+    // Whether a content fills the field: not 0, not empty, not all zeros.
+    pub fn is_filled(self, content: Content) -> bool
+        ensures { λ r. ⌜ r ≡ filled (family (sortOf (self .sort))) (cellOf (content .entry)) ⌝ }
+    {
+        is_filled(self.sort, content)
     }
 
     // The fault of a flaw, at its position.

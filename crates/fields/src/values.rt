@@ -39,7 +39,7 @@ fn has_word(words: &[&[u8]], text: &[u8]) -> bool
     false
 }
 
-fn is_filled(sort: Sort, content: Content) -> bool
+pub fn is_filled(sort: Sort, content: Content) -> bool
     ensures { λ r. ⌜ r ≡ filled (family (sortOf sort)) (cellOf (content .entry)) ⌝ }
 {
     match (sort, content) {

@@ -2,4 +2,4 @@ pub mod Fitting
 pub mod Reckoning
 pub mod Place
 pub mod Law
-pub mod Progress
+pub mod Advance

@@ -9,6 +9,7 @@ use Rattle.std.specs.declared.option.Option.the-variants.{Some, None}
 use Rattle.fields.specs.Faults.{Fault, fault}
 use Rattle.fields.specs.Field.{Field, Value, num, txt, Cell, family, filled}
 use Rattle.layouts.specs.Layout.{fieldAt}
+use Rattle.layouts.specs.Lawful.{NamesPremise, NamesClaim}
 use Rattle.layouts.specs.declared.conditions.Condition.{Condition}
 use Rattle.layouts.specs.declared.conditions.Premise.{Premise}
 use Rattle.layouts.specs.declared.conditions.Premise.the-variants.{Always, IfCode, IfEither, IfFilled}
@@ -66,7 +67,17 @@ claimStart fs (AtMost i j) = max (fieldAt fs i .start) (fieldAt fs j .start)
 claimStart fs (Short i n) = fieldAt fs i .start
 claimStart fs (ShortBoth i j n) = max (fieldAt fs i .start) (fieldAt fs j .start)
 
+abbrev pub breaks : List Field → List Cell → Condition → Bool
+breaks fs cs c = premiseHolds fs cs (c .premise) && not (claimHolds fs cs (c .claim))
+
+abbrev pub highestStart : List Field → Condition → ℕ
+highestStart fs c = max (premiseStart fs (c .premise)) (claimStart fs (c .claim))
+
 -- 15: the first condition that is broken
 abbrev pub broken : List Field → List Cell → List Condition → Option Fault
 broken fs cs [] = None
-broken fs cs (c ∷ rest) = cond (premiseHolds fs cs (c .premise) && not (claimHolds fs cs (c .claim))) (Some (fault 15 (max (premiseStart fs (c .premise)) (claimStart fs (c .claim))))) (broken fs cs rest)
+broken fs cs (c ∷ rest) = cond (breaks fs cs c) (Some (fault 15 (highestStart fs c))) (broken fs cs rest)
+
+-- a condition names fields that are there, with the fitting sort
+abbrev pub Named : List Field → Condition → Type 0
+Named fs c = NamesPremise fs (c .premise) × NamesClaim fs (c .claim)

@@ -1,4 +1,6 @@
 pub mod Cells
 pub mod Conditions
 pub mod Row
+pub mod Held
 pub mod Entries
+pub mod Faults
