@@ -1,5 +1,7 @@
-// The exchange of entries and rows.
+// Drafts: files written entry by entry on a carrier.
 ghost use Rattle.drafts.specs.Exchange.{Exchange-law};
+pub mod faults;
+pub mod states;
 
 pub fn exchange_law() -> u8
     ensures { λ _. ⌜ Exchange-law ⌝ }
