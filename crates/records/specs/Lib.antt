@@ -3,4 +3,5 @@ pub mod Conditions
 pub mod Row
 pub mod Held
 pub mod Entries
+pub mod Asked
 pub mod Faults

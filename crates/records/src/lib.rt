@@ -6,3 +6,5 @@ pub mod faults;
 pub mod judging;
 pub mod kinds;
 pub mod laws;
+mod origins;
+pub mod values;
