@@ -29,6 +29,10 @@ refused-at : (b : Bool) (n : ℕ) (o : Option ℕ) (x : Refusal) → Some x ≡ 
 refused-at true n o x e = some-none e
 refused-at false n o x e = e
 
+no-other : (b : Bool) (n : ℕ) (o : Option ℕ) → cond b o (Some n) ≡ None → b ≡ true
+no-other true n o e = refl
+no-other false n o e = some-none e
+
 -- the next field is one that an entry has no value for, or one that it has
 module _ (fields : List Field) (i : ℕ) (d : Field) (l : i < length fields) where
   pub ask-none : (o : Origin) → ((a : Asked) → o ≡ Entered a → ⊥) → c.origin (fieldOf (getD fields i d)) ≡ originOf (getD fields i d .start) o → askedBy (drop i fields) ≡ askedBy (drop (i + 1) fields)
@@ -41,14 +45,14 @@ module _ (fields : List Field) (i : ℕ) (d : Field) (l : i < length fields) whe
 
 -- the next value suits, or is the first that does not
 module _ (pool : List ℕ) (values : List Value) (next : ℕ) (d : Value) (l : next < length values) (p : s.Value → Bool) (ps : List (s.Value → Bool)) where
-  next-value : firstOther (next + 1) (map (suits pool) (p ∷ ps)) (drop next values) ≡ cond (suits pool p (getD values next d)) (firstOther (next + 1 + 1) (map (suits pool) ps) (drop (next + 1) values)) (Some (next + 1))
+  pub next-value : firstOther (next + 1) (map (suits pool) (p ∷ ps)) (drop next values) ≡ cond (suits pool p (getD values next d)) (firstOther (next + 1 + 1) (map (suits pool) ps) (drop (next + 1) values)) (Some (next + 1))
   next-value = at-drop-more (firstOther (next + 1) (map (suits pool) (p ∷ ps))) values next d l
 
   pub value-refused : (x : Refusal) → Some x ≡ unless (suits pool p (getD values next d)) (refusal 31 (next + 1) 0) → Some x ≡ valueFault (firstOther (next + 1) (map (suits pool) (p ∷ ps)) (drop next values))
   value-refused x e = refused-at (suits pool p (getD values next d)) (next + 1) _ x e ∙ ap valueFault (sym next-value)
 
-  pub value-suits : None ≡ unless (suits pool p (getD values next d)) (refusal 31 (next + 1) 0) → firstOther (next + 1 + 1) (map (suits pool) ps) (drop (next + 1) values) ≡ firstOther (next + 1) (map (suits pool) (p ∷ ps)) (drop next values)
-  value-suits e = sym (next-value ∙ ap (λ b. cond b (firstOther (next + 1 + 1) (map (suits pool) ps) (drop (next + 1) values)) (Some (next + 1))) (unless-true (suits pool p (getD values next d)) _ (sym e)))
+  pub value-suits : suits pool p (getD values next d) ≡ true → firstOther (next + 1 + 1) (map (suits pool) ps) (drop (next + 1) values) ≡ firstOther (next + 1) (map (suits pool) (p ∷ ps)) (drop next values)
+  value-suits e = sym (next-value ∙ ap (λ b. cond b (firstOther (next + 1 + 1) (map (suits pool) ps) (drop (next + 1) values)) (Some (next + 1))) e)
 
 -- the fields before i have had the values before next
 pub record Asking (fields : List Field) (values : List Value) (pool : List ℕ) (i next : ℕ) : Type 0 where
@@ -63,29 +67,28 @@ module _ (fields : List Field) (values : List Value) (pool : List ℕ) where
     pub asking-all : length fields ≤ i → None ≡ firstOther 1 (map (suits pool) (askedBy fields)) values
     asking-all h = sym (at-drop-all (λ fields. firstOther (next + 1) (map (suits pool) (askedBy fields)) (drop next values)) fields i h) ∙ a .same
 
-    module _ (d : Field) (l : i < length fields) where
-      pub asking-skip : (o : Origin) → ((a : Asked) → o ≡ Entered a → ⊥) → c.origin (fieldOf (getD fields i d)) ≡ originOf (getD fields i d .start) o → Asking fields values pool (i + 1) next
-      asking-skip o other is =
-          let e = ask-none fields i d l o other is in
-          record { even = ap (λ ps. next + length ps) (sym e) ∙ a .even; same = ap (λ ps. firstOther (next + 1) (map (suits pool) ps) (drop next values)) (sym e) ∙ a .same }
+    pub asking-skip : askedBy (drop i fields) ≡ askedBy (drop (i + 1) fields) → Asking fields values pool (i + 1) next
+    asking-skip e = record { even = ap (λ ps. next + length ps) (sym e) ∙ a .even; same = ap (λ ps. firstOther (next + 1) (map (suits pool) ps) (drop next values)) (sym e) ∙ a .same }
 
-      module _ (k : Asked) (is : c.origin (fieldOf (getD fields i d)) ≡ c.entered (asksFor k)) where
-        pub asking-room : next < length values
-        asking-room = omega (arith, a .even, ap length (ask-one fields i d l k is))
+    module _ (p : s.Value → Bool) (one : askedBy (drop i fields) ≡ p ∷ askedBy (drop (i + 1) fields)) where
+      pub asking-room : next < length values
+      asking-room = omega (arith, a .even, ap length one)
 
-        module _ (v : Value) where
-          pub asking-refused : (x : Refusal) → Some x ≡ unless (suits pool (asksFor k) (getD values next v)) (refusal 31 (next + 1) 0) → Some x ≡ valueFault (firstOther 1 (map (suits pool) (askedBy fields)) values)
-          asking-refused x e =
-              value-refused pool values next v asking-room (asksFor k) (askedBy (drop (i + 1) fields)) x e
-              ∙ ap valueFault (ap (λ ps. firstOther (next + 1) (map (suits pool) ps) (drop next values)) (sym (ask-one fields i d l k is)) ∙ a .same)
+      module _ (v : Value) where
+        pub asking-refused : (x : Refusal) → Some x ≡ unless (suits pool p (getD values next v)) (refusal 31 (next + 1) 0) → Some x ≡ valueFault (firstOther 1 (map (suits pool) (askedBy fields)) values)
+        asking-refused x e =
+            value-refused pool values next v asking-room p (askedBy (drop (i + 1) fields)) x e
+            ∙ ap valueFault (ap (λ ps. firstOther (next + 1) (map (suits pool) ps) (drop next values)) (sym one) ∙ a .same)
 
-          pub asking-next : None ≡ unless (suits pool (asksFor k) (getD values next v)) (refusal 31 (next + 1) 0) → Asking fields values pool (i + 1) (next + 1)
-          asking-next e =
-              let one = ask-one fields i d l k is in
-              record {
-                even = omega (arith, a .even, ap length one);
-                same = value-suits pool values next v asking-room (asksFor k) (askedBy (drop (i + 1) fields)) e ∙ ap (λ ps. firstOther (next + 1) (map (suits pool) ps) (drop next values)) (sym one) ∙ a .same;
-              }
+        pub asking-next : suits pool p (getD values next v) ≡ true → Asking fields values pool (i + 1) (next + 1)
+        asking-next e = record {
+          even = omega (arith, a .even, ap length one);
+          same = value-suits pool values next v asking-room p (askedBy (drop (i + 1) fields)) e ∙ ap (λ ps. firstOther (next + 1) (map (suits pool) ps) (drop next values)) (sym one) ∙ a .same;
+        }
+
+        -- where every value suits, so does the next
+        pub asking-suits : None ≡ firstOther 1 (map (suits pool) (askedBy fields)) values → suits pool p (getD values next v) ≡ true
+        asking-suits e = no-other (suits pool p (getD values next v)) (next + 1) _ (sym (next-value pool values next v asking-room p (askedBy (drop (i + 1) fields))) ∙ ap (λ ps. firstOther (next + 1) (map (suits pool) ps) (drop next values)) (sym one) ∙ a .same ∙ sym e)
 
 -- the count of the values comes first
 module _ (pool : List ℕ) (ps qs : List (s.Value → Bool)) (is : ps ≡ qs) (values : List Value) where

@@ -7,4 +7,5 @@ pub mod judging;
 pub mod kinds;
 pub mod laws;
 mod origins;
+pub mod printing;
 pub mod values;
