@@ -1,5 +1,6 @@
 // Drafts: files written entry by entry on a carrier.
 ghost use Rattle.drafts.specs.Exchange.{Exchange-law};
+pub mod drafts;
 pub mod faults;
 pub mod states;
 

@@ -1,0 +1,78 @@
+// A draft: a file that is written entry by entry on a carrier.
+ghost use mathlib.Core.Path.{_≡_};
+ghost use mathlib.Core.List.{List, [], _∷_};
+ghost use Prim.Native.Nat.{ℕ, _+_, _≤_};
+ghost use lib.ListN.{length};
+ghost use Rattle.std.specs.Vec.{made};
+ghost use Rattle.fields.specs.Faults.{refusalIn, firstOf};
+ghost use Rattle.layouts.specs.Layout.{Layout};
+ghost use Rattle.records.specs.Entries.{handedOf};
+ghost use Rattle.files.specs.Standing.{Stands};
+ghost use Rattle.drafts.specs.declared.states.State.the-variants.{Fresh};
+ghost use Rattle.drafts.specs.Draft.{Moment, stateAfter};
+ghost use Rattle.drafts.specs.Faults.{ofDraft};
+ghost use Rattle.drafts.specs.Standing.{Shows, admission};
+ghost use Rattle.drafts.specs.States.{stateOf, callOf};
+use crate::faults::DraftFault;
+use crate::faults::DraftFromFile;
+use crate::faults::DraftFromRow;
+use crate::faults::DraftFromValue;
+use crate::states::Call;
+use crate::states::State;
+use files::progress::Progress;
+use layouts::book::Book;
+use layouts::kinds::Kind;
+use records::entries::Entry;
+use records::kinds::find_marked;
+use records::values::check_values;
+use rows::Carrier;
+
+#[derive(Drop)]
+pub struct Draft<B: Book, C: Carrier> {
+    book: B,
+    carrier: C,
+    state: State,
+    progress: Progress,
+}
+
+// An entry that may be printed: its row's number and kind, and the state after it.
+#[derive(Clone, Copy)]
+struct Admitted {
+    row_number: usize,
+    kind: Kind,
+    state: State,
+}
+
+impl<B: Book, C: Carrier> Draft<B, C> {
+    // A fresh draft. Its rows are numbered from 1 whatever the carrier holds.
+    pub fn new(book: B, carrier: C) -> Draft<B, C>
+        ensures { λ r. ⌜ r .carrier ≡ carrier ⌝ ∗ ⌜ r .state ≡ Fresh ⌝ ∗ ⌜ Stands (B·Meant .meaning) (r .progress) [] ⌝ }
+    {
+        Draft {
+            book,
+            carrier,
+            state: State::Fresh,
+            progress: Progress::new(),
+        }
+    }
+
+    // The checks before the row is printed.
+    fn admit(&self, call: Call, entry: Entry) -> Result<Admitted, DraftFault>
+        ensures refused { λ r. ⌜ ((v : Moment) → Shows (B·Meant .meaning) (C·Source .rows) (C·Carrier .places) (now (self .entry)) v → refusalIn ofDraft r ≡ firstOf (admission (B·Meant .meaning) v (callOf call) (handedOf (entry .entry)))) ⌝ }
+        ensures state { λ r. ⌜ made r (λ a. stateOf (a .state) ≡ stateAfter (callOf call) (entry .entry .mark)) ⌝ }
+        ensures kind { λ r. ⌜ made r (λ a. a .kind .mark ≡ entry .entry .mark) ⌝ }
+        ensures number { λ r. ⌜ ((v : Moment) → Shows (B·Meant .meaning) (C·Source .rows) (C·Carrier .places) (now (self .entry)) v → made r (λ a. a .«row_number» ≡ length (v .entries) + 1)) ⌝ }
+    {
+        self.state.allow(call)?;
+        let row_number = self.progress.next_number()?;
+        let kind = find_marked(&self.book, row_number, entry.mark)?;
+        check_values(&self.book, entry)?;
+        let state = self.state.after(&self.book, row_number, call, kind)?;
+        self.progress.place(&self.book, row_number, kind)?;
+        Ok(Admitted {
+            row_number,
+            kind,
+            state,
+        })
+    }
+}
