@@ -1,6 +1,6 @@
 -- An entry as it is handed in: numbers, and places and lengths in a pool of bytes.
-use mathlib.Core.Bool.{Bool, true, cond, _&&_}
-use mathlib.Core.List.{List, [], _∷_, map}
+use mathlib.Core.Bool.{Bool, true, _&&_}
+use mathlib.Core.List.{List, map}
 use Prim.Native.Nat.{ℕ, _+_}
 use lib.Dec.{leb}
 use lib.ListN.{length, take, drop}
@@ -13,7 +13,7 @@ use Rattle.layouts.specs.Layout.{Layout}
 use Rattle.records.specs.declared.entries.Value.{Value}
 use Rattle.records.specs.declared.entries.Value.the-variants.{Number, Text}
 use Rattle.records.specs.declared.entries.Entry as code
-use Rattle.records.specs.Cells.{Origin, ofBook, entered, reckoned, sortsAsked, wrongValue}
+use Rattle.records.specs.Cells.{sortsAsked, wrongValue}
 use Rattle.records.specs.Row.{Entry, originsOf}
 
 pub record Handed : Type 0 where
@@ -45,10 +45,3 @@ handed31 l h = wrongValue (map (suits (h .pool)) (sortsAsked (originsOf l (h .ma
 abbrev pub valueFault : Option ℕ → Option Refusal
 valueFault None = None
 valueFault (Some v) = Some (refusal 31 v 0)
-
--- the worked numbers that the fields of those origins ask for
-abbrev pub reckonedBy : (s.Working → ℕ) → List Origin → List ℕ
-reckonedBy r [] = []
-reckonedBy r (ofBook ∷ os) = reckonedBy r os
-reckonedBy r (entered p ∷ os) = reckonedBy r os
-reckonedBy r (reckoned s k ∷ os) = r k ∷ reckonedBy r os

@@ -3,4 +3,7 @@ pub mod Conditions
 pub mod Row
 pub mod Held
 pub mod Entries
+pub mod Worked
+pub mod Asked
+pub mod Printing
 pub mod Faults

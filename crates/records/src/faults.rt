@@ -67,6 +67,14 @@ pub impl From<RowFault> for EntryFault as EntryFromRow {
     }
 }
 
+pub impl From<FieldFault> for EntryFault as EntryFromField {
+    ghost converts = { λ e r. r ≡ entry.Row (Field e) };
+
+    fn from(fault: FieldFault) -> EntryFault {
+        EntryFault::Row(RowFault::Field(fault))
+    }
+}
+
 pub impl From<CarrierFault> for TakeFault as TakeFromCarrier {
     ghost converts = { λ e r. r ≡ taking.Carrier e };
 

@@ -6,3 +6,6 @@ pub mod faults;
 pub mod judging;
 pub mod kinds;
 pub mod laws;
+mod origins;
+pub mod printing;
+pub mod values;
