@@ -11,3 +11,5 @@ pub mod laws;
 mod parts;
 mod texts;
 mod values;
+
+pub use values::is_same;

@@ -22,7 +22,8 @@ fn has_code(codes: &[u64], number: u64) -> bool
     false
 }
 
-fn is_same(word: &[u8], text: &[u8]) -> bool
+// Whether two texts have the same bytes.
+pub fn is_same(word: &[u8], text: &[u8]) -> bool
     ensures { λ r. ⌜ r ≡ same (now (word .entry)) (now (text .entry)) ⌝ }
 {
     word == text

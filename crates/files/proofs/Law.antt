@@ -69,9 +69,10 @@ module _ (l : Layout) (law : Lawful l) where
       let s = step before row rows a h in
       let e = entryOf l row in
       let here = enters l law before row (w .0) (s .0) .0 in
-      let rest = rows-back rows (before ++ e ∷ []) a (w .1) (s .1) in
-      (ap (λ x. x ∷ rowsAfter l (before ++ e ∷ []) (map (entryOf l) rows)) here ∙ ap (λ x. row ∷ x) (rest .0),
-       rest .1 ∙ ap (accepted l) (append-assoc before (e ∷ []) (map (entryOf l) rows)))
+      let rest = rows-back rows (before ++ e ∷ []) a (w .1) (s .1) in (
+        ap (λ x. x ∷ rowsAfter l (before ++ e ∷ []) (map (entryOf l) rows)) here ∙ ap (λ x. row ∷ x) (rest .0),
+        rest .1 ∙ ap (accepted l) (append-assoc before (e ∷ []) (map (entryOf l) rows)),
+      )
 
   not-header : (b : Entry) (bs : List Entry) (m : ℕ) → mayStand l (b ∷ bs) m ≡ true → eqb m (l .header) ≡ false
   not-header b bs m h = ne-eqb m (l .header) (λ is.

@@ -50,27 +50,34 @@ module _ (l : Layout) (before : List Entry) (c : Call) (e : Entry) where
       let n = length before + 1 in
       let p = none-all (inRow n (firstOf (firstChecks l before (e .mark))) ∷ (valueFault v ∷ (inRow n (firstOf (entryChecks l before c e)) ∷ []))) h in
       let a = none-all (firstChecks l before (e .mark)) (no-fault n _ (p .0)) in
-      let b = none-all (entryChecks l before c e) (no-fault n _ (p .1 .1 .0)) in
-      (record {
-        few = a .0;
-        known = a .1 .0;
-        asked = unless-true _ _ (b .0);
-        order = b .1 .0;
-        group = b .1 .1 .0;
-        fields = b .1 .1 .1 .0;
-        conditions = b .1 .1 .1 .1 .0;
-        owner = b .1 .1 .1 .1 .1 .0;
-        sum = b .1 .1 .1 .1 .1 .1 .0;
-      }, value-none v (p .1 .0))
+      let b = none-all (entryChecks l before c e) (no-fault n _ (p .1 .1 .0)) in (
+        record {
+          few = a .0;
+          known = a .1 .0;
+          asked = unless-true _ _ (b .0);
+          order = b .1 .0;
+          group = b .1 .1 .0;
+          fields = b .1 .1 .1 .0;
+          conditions = b .1 .1 .1 .1 .0;
+          owner = b .1 .1 .1 .1 .1 .0;
+          sum = b .1 .1 .1 .1 .1 .1 .0;
+        },
+        value-none v (p .1 .0),
+      )
 
   pub passes : (v : Option ℕ) → Passed l before c e → v ≡ None → checksWith v l before c e ≡ None
   passes v p h =
       let n = length before + 1 in
-      all-none (inRow n (firstOf (firstChecks l before (e .mark))) ∷ (valueFault v ∷ (inRow n (firstOf (entryChecks l before c e)) ∷ [])))
-      (in-none n _ (all-none (firstChecks l before (e .mark)) (p .few, (p .known, tt))),
-       (ap valueFault h,
-       (in-none n _ (all-none (entryChecks l before c e) (true-unless _ _ (p .asked), (p .order, (p .group, (p .fields, (p .conditions, (p .owner, (p .sum, tt)))))))),
-       tt)))
+      all-none (inRow n (firstOf (firstChecks l before (e .mark))) ∷ (valueFault v ∷ (inRow n (firstOf (entryChecks l before c e)) ∷ []))) (
+        in-none n _ (all-none (firstChecks l before (e .mark)) (p .few, (p .known, tt))),
+        (
+          ap valueFault h,
+          (
+            in-none n _ (all-none (entryChecks l before c e) (true-unless _ _ (p .asked), (p .order, (p .group, (p .fields, (p .conditions, (p .owner, (p .sum, tt)))))))),
+            tt,
+          ),
+        ),
+      )
 
 as-many : (l : Layout) (e : Entry) → values31 l e ≡ None → length (sortsAsked (originsOf l (e .mark))) ≡ length (e .values)
 as-many l e h =
@@ -91,19 +98,20 @@ module _ (l : Layout) (law : Lawful l) where
       let r = reckon l before e in
       let q = reads l law row len (all-none (rowFaults l row) (n .1 .0, (n .1 .1 .1 .1 .0, (n .1 .1 .1 .1 .1 .0, tt)))) in
       let sh = shaped (fieldsOf l (e .mark)) (cells os (e .values) (digitsOf l row)) row (q .1) in
-      let is : digitsOf l row ≡ reckonedBy r os = all-right r os (e .values) (digitsOf l row) sh (n .1 .1 .1 .1 .1 .1 .1 .0) (n .1 .1 .1 .1 .1 .1 .1 .1 .1 .0) (n .1 .1 .1 .1 .1 .1 .1 .1 .1 .1 .0) in
-      (ap (λ ws. okOr [] (printRow l e ws)) (sym is) ∙ ap (okOr []) (q .1),
-       λ c a. passes l before c e (values31 l e) (record {
-         few = n .0;
-         known = n .1 .0;
-         asked = a;
-         order = n .1 .1 .0;
-         group = n .1 .1 .1 .0;
-         fields = q .0 .prints;
-         conditions = q .0 .keeps;
-         owner = n .1 .1 .1 .1 .1 .1 .0;
-         sum = n .1 .1 .1 .1 .1 .1 .1 .1 .0;
-       }) (q .0 .valued))
+      let is : digitsOf l row ≡ reckonedBy r os = all-right r os (e .values) (digitsOf l row) sh (n .1 .1 .1 .1 .1 .1 .1 .0) (n .1 .1 .1 .1 .1 .1 .1 .1 .1 .0) (n .1 .1 .1 .1 .1 .1 .1 .1 .1 .1 .0) in (
+        ap (λ ws. okOr [] (printRow l e ws)) (sym is) ∙ ap (okOr []) (q .1),
+        λ c a. passes l before c e (values31 l e) (record {
+          few = n .0;
+          known = n .1 .0;
+          asked = a;
+          order = n .1 .1 .0;
+          group = n .1 .1 .1 .0;
+          fields = q .0 .prints;
+          conditions = q .0 .keeps;
+          owner = n .1 .1 .1 .1 .1 .1 .0;
+          sum = n .1 .1 .1 .1 .1 .1 .1 .1 .0;
+        }) (q .0 .valued),
+      )
 
   acceptable : (before : List Entry) (c : Call) (e : Entry) → Passed l before c e → values31 l e ≡ None → Acceptable l e
   acceptable before c e p v = record { known = p .known; valued = v; prints = p .fields; keeps = p .conditions }
@@ -132,8 +140,29 @@ module _ (l : Layout) (law : Lawful l) where
       let m : markOf row ≡ e .mark = ap (λ x. x .mark) same in
       let t = none-all (rowFaults l row) (q .3) in
       let right : (k : ℕ) (looked : Working → Bool) → wrong k looked l before row ≡ None =
-          λ k looked. ap (λ x. firstWrong k looked (reckon l before x) (originsOf l (x .mark)) (digitsOf l row)) same ∙ ap (firstWrong k looked r os) (q .2) ∙ none-wrong k looked r os in
-      (q .0, same,
-       in-none (length before + 1) _ (all-none (rowChecks l before row)
-       (p .few, (t .0, (ap (order20 l before) m ∙ p .order, (ap (group21 l before) m ∙ p .group, (t .1 .0, (t .1 .1 .0, (ap (owner22 l before) same ∙ p .owner,
-       (right 23 isNumber, (ap (sum26 l before) same ∙ p .sum, (right 24 isTotal, (right 25 isCount, tt)))))))))))))
+      λ k looked. ap (λ x. firstWrong k looked (reckon l before x) (originsOf l (x .mark)) (digitsOf l row)) same ∙ ap (firstWrong k looked r os) (q .2) ∙ none-wrong k looked r os in (
+        q .0,
+        same,
+        in-none (length before + 1) _ (all-none (rowChecks l before row) (
+          p .few,
+          (
+            t .0,
+            (
+              ap (order20 l before) m ∙ p .order,
+              (
+                ap (group21 l before) m ∙ p .group,
+                (
+                  t .1 .0,
+                  (
+                    t .1 .1 .0,
+                    (
+                      ap (owner22 l before) same ∙ p .owner,
+                      (right 23 isNumber, (ap (sum26 l before) same ∙ p .sum, (right 24 isTotal, (right 25 isCount, tt)))),
+                    ),
+                  ),
+                ),
+              ),
+            ),
+          ),
+        )),
+      )

@@ -40,7 +40,7 @@ owner-within : (g : Option Group) (es : List Entry) → ownerPlace g es ≤ leng
 owner-within None es = omega arith
 owner-within (Some g) es = last-within (g .owner) es
 
-count-within : (ms : List ℕ) (es : List Entry) → countOf ms es ≤ length es
+pub count-within : (ms : List ℕ) (es : List Entry) → countOf ms es ≤ length es
 count-within ms [] = omega arith
 count-within ms (e ∷ es) = let h = count-within ms es in ⊎-elim (λ t. rw t (omega arith)) (λ f. rw f (omega arith)) (cases-bool (anyOf ms (e .mark)))
 

@@ -35,14 +35,17 @@ full (Some g) before m = eqb m (g .follower) && leb (g .largest) (followers g be
 abbrev pub group21 : Layout → List Entry → ℕ → Option Fault
 group21 l before m = unless (not (full (l .group) before m)) (fault 21 1)
 
--- a follower's owner has type 2, and its identifier
+-- what binds a follower to its owner: the owner's type is 2, and the follower's identifier is the owner's
+abbrev pub bound : Layout → Group → ℕ → List ℕ → List ℕ → Option Fault
+bound l g type identifier copy =
+    firstOf (unless (eqb type 2) (fault 22 1) ∷ (unless (same identifier copy) (fault 22 (fieldAt (fieldsOf l (g .follower)) (g .followerIdentifier) .start)) ∷ []))
+
 abbrev pub tied : Layout → Option Group → List Entry → Entry → Option Fault
 tied l None before e = None
 tied l (Some g) before e =
     let owner = contents l (ownerOf g before) in
     cond (eqb (e .mark) (g .follower))
-    (firstOf (unless (eqb (numberAt owner (g .ownerType)) 2) (fault 22 1) ∷
-             (unless (same (textIn (cellAt owner (g .ownerIdentifier))) (textIn (cellAt (contents l e) (g .followerIdentifier)))) (fault 22 (fieldAt (fieldsOf l (g .follower)) (g .followerIdentifier) .start)) ∷ [])))
+    (bound l g (numberAt owner (g .ownerType)) (textIn (cellAt owner (g .ownerIdentifier))) (textIn (cellAt (contents l e) (g .followerIdentifier))))
     None
 
 abbrev pub owner22 : Layout → List Entry → Entry → Option Fault
@@ -54,6 +57,12 @@ summedStart l (Some p) = fieldAt (fieldsOf l (p .kind)) (p .field) .start
 
 abbrev pub sum26 : Layout → List Entry → Entry → Option Fault
 sum26 l before e = unless (ltb (sumOf l (before ++ e ∷ [])) (10 ^ 17)) (fault 26 (summedStart l (l .summed)))
+
+-- whether a worked field is looked at and holds another number than it must
+abbrev pub isWrong : (Working → Bool) → (Working → ℕ) → Origin → ℕ → Bool
+isWrong looked r ofBook n = false
+isWrong looked r (entered p) n = false
+isWrong looked r (reckoned s k) n = looked k && not (eqb n (r k))
 
 -- 23, 24, 25: the first worked field among those looked at whose digits are not what they must be
 abbrev pub firstWrong : ℕ → (Working → Bool) → (Working → ℕ) → List Origin → List ℕ → Option Fault

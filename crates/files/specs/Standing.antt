@@ -9,8 +9,9 @@ use Rattle.std.specs.declared.option.Option.the-variants.{Some, None}
 use Rattle.fields.specs.Faults.{firstOf}
 use Rattle.layouts.specs.declared.kinds.Kind.{Kind}
 use Rattle.layouts.specs.Layout.{Layout}
+use Rattle.layouts.specs.Meaning.{owns}
 use Rattle.records.specs.Row.{Entry, markOf, entryOf, rowFaults}
-use Rattle.files.specs.declared.progress.Owner.{Owner}
+use Rattle.files.specs.declared.owner.Owner.{Owner}
 use Rattle.files.specs.declared.progress.Progress.{Progress}
 use Rattle.files.specs.Before.{noEntry}
 use Rattle.files.specs.Progress as s
@@ -47,7 +48,7 @@ pub record Good (l : Layout) (row : List ℕ) : Type 0 where
 -- the row that is kept of the last owner is a good row of an owner
 pub record GoodOwner (l : Layout) (o : Owner) : Type 0 where
   pub good : Good l (o .row)
-  pub owns : s.isOwner (l .group) (markOf (o .row)) ≡ true
+  pub owner : owns (l .group) (markOf (o .row)) ≡ true
 
 abbrev pub KeptOwner : Layout → Option Owner → Type 0
 KeptOwner l None = Unit {0}
