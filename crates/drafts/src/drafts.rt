@@ -28,7 +28,7 @@ use records::values::check_values;
 use rows::Carrier;
 
 #[derive(Drop)]
-pub struct Draft<B: Book, C: Carrier> {
+pub struct Draft<B, C> {
     book: B,
     carrier: C,
     state: State,
