@@ -59,7 +59,7 @@ module _ (pool : List ℕ) where
       (cases-bool (p (valueOf pool g)))
 
 module _ (l : Layout) (h : Handed) where
-  means : handed31 l h ≡ None → values31 l (meant h) ≡ None
+  pub means : handed31 l h ≡ None → values31 l (meant h) ≡ None
   means e =
       let ps = sortsAsked (originsOf l (h .mark)) in
       let p = wrong-parts (map (suits (h .pool)) ps) (h .values) e in

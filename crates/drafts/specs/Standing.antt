@@ -1,20 +1,22 @@
 -- What a draft of the program stands for, and what its calls promise.
 use mathlib.Core.Path.{_≡_}
 use mathlib.Core.List.{List, [], _∷_, _++_}
-use Prim.Native.Nat.{ℕ, _+_}
+use Prim.Native.Nat.{ℕ, _+_, _≤_}
 use lib.Dec.{ltb}
 use lib.ListN.{length}
 use Rattle.std.specs.declared.option.Option.{Option}
+use Rattle.std.specs.declared.option.Option.the-variants.{None}
 use Rattle.std.specs.declared.result.Result.{Result}
 use Rattle.std.specs.declared.result.Result.the-variants.{Ok, Err}
 use Rattle.rows.specs.declared.refusals.Refusal.{Refusal}
 use Rattle.rows.specs.Refusals.{refusal}
 use Rattle.fields.specs.Faults.{fault, inRow, unless, firstOf}
 use Rattle.layouts.specs.Layout.{Layout}
-use Rattle.records.specs.Row.{mark10, fields11, conditions15}
+use Rattle.records.specs.Row.{mark10, fields11, conditions15, entryOf}
 use Rattle.records.specs.Entries.{Handed, meant, handed31, valueFault}
 use Rattle.files.specs.Checks.{Call, row27, order20, group21, owner22, sum26, asks}
-use Rattle.files.specs.Standing.{Stands}
+use Rattle.files.specs.Before.{rowOf, sumOf}
+use Rattle.files.specs.Standing.{Stands, Good}
 use Rattle.drafts.specs.declared.drafts.Draft.{Draft}
 use Rattle.drafts.specs.declared.faults.DraftFault.{DraftFault}
 use Rattle.drafts.specs.Draft.{Moment, allows}
@@ -44,3 +46,18 @@ abbrev pub contents : Layout → Moment → Handed → List (Option Refusal)
 contents l v h =
     let n = length (v .entries) + 1 in
     inRow n (fields11 l (meant h)) ∷ (inRow n (conditions15 l (meant h)) ∷ (inRow n (owner22 l (v .entries) (meant h)) ∷ (inRow n (sum26 l (v .entries) (meant h)) ∷ [])))
+
+-- an entry that was admitted as the next: its row's number and its kind's mark
+pub record Ready (l : Layout) (v : Moment) (h : Handed) (number mark : ℕ) : Type 0 where
+  pub next : number ≡ length (v .entries) + 1
+  pub few : number ≤ 65535
+  pub marked : mark ≡ h .mark
+  pub known : mark10 l (h .mark) ≡ None
+  pub valued : handed31 l h ≡ None
+
+-- a row that may be pushed for the entry, and the sum with it
+pub record Fit (l : Layout) (v : Moment) (h : Handed) (row : List ℕ) (sum : ℕ) : Type 0 where
+  pub is : row ≡ rowOf l (v .entries) (meant h)
+  pub good : Good l row
+  pub read : entryOf l row ≡ meant h
+  pub sums : sum ≡ sumOf l (v .entries ++ meant h ∷ [])

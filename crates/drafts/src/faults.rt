@@ -1,10 +1,12 @@
 // What a call on a draft is refused for. Each case carries the lower layer's fault whole.
 ghost use mathlib.Core.Path.{_≡_};
 ghost use Rattle.drafts.specs.declared.faults.DraftFault.the-variants as draft;
+ghost use Rattle.records.specs.Faults.{ofEntry};
 ghost use Rattle.drafts.specs.Faults.{ofDraft};
 use files::faults::FileFault;
 use files::faults::FileFaultDebug;
 use files::faults::FileFaultPartialEq;
+use records::faults::EntryFault;
 use records::faults::RowFault;
 use records::faults::RowFaultDebug;
 use records::faults::RowFaultPartialEq;
@@ -56,6 +58,17 @@ pub impl From<CarrierFault> for DraftFault as DraftFromCarrier {
 
     fn from(fault: CarrierFault) -> DraftFault {
         DraftFault::Carrier(fault)
+    }
+}
+
+pub impl From<EntryFault> for DraftFault as DraftFromEntry {
+    ghost converts = { λ e r. ofDraft r ≡ ofEntry e };
+
+    fn from(fault: EntryFault) -> DraftFault {
+        match fault {
+            EntryFault::Value(fault) => DraftFault::Value(fault),
+            EntryFault::Row(fault) => DraftFault::Row(fault),
+        }
     }
 }
 

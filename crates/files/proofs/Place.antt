@@ -79,7 +79,7 @@ module _ (l : Layout) (before : List Entry) (c : Call) (e : Entry) where
         ),
       )
 
-as-many : (l : Layout) (e : Entry) → values31 l e ≡ None → length (sortsAsked (originsOf l (e .mark))) ≡ length (e .values)
+pub as-many : (l : Layout) (e : Entry) → values31 l e ≡ None → length (sortsAsked (originsOf l (e .mark))) ≡ length (e .values)
 as-many l e h =
     let ps = sortsAsked (originsOf l (e .mark)) in
     ⊎-elim
