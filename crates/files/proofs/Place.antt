@@ -21,7 +21,7 @@ use Rattle.records.specs.Row.{Entry, fieldsOf, originsOf, contents, mark10, val
 use Rattle.records.proofs.Options.{some-none, none-all, all-none, no-fault, in-none, unless-true, true-unless}
 use Rattle.records.proofs.Cells.{shaped, alike, prints-all}
 use Rattle.records.proofs.Law.{reads, writes, lawful-kind}
-use Rattle.records.specs.Entries.{reckonedBy}
+use Rattle.records.specs.Worked.{reckonedBy}
 use Rattle.files.specs.Before.{sumOf, reckon, rowOf}
 use Rattle.records.specs.Entries.{valueFault}
 use Rattle.files.specs.Checks.{row27, order20, group21, owner22, sum26, firstWrong, isNumber, isTotal, isCount, wrong, rowChecks, rowFault, Call, asks, firstChecks, entryChecks, checksWith, entryFault}

@@ -23,7 +23,7 @@ use Rattle.records.specs.Cells.{Origin, ofBook, entered, reckoned, isNum, isTxt
 use Rattle.records.specs.Row.{Entry}
 use Rattle.records.proofs.Options.{some-none}
 use Rattle.records.proofs.Cells.{Shaped, FitAt, WorkedAt, WorkedFit}
-use Rattle.records.specs.Entries.{reckonedBy}
+use Rattle.records.specs.Worked.{reckonedBy}
 use Rattle.files.specs.Before.{lastPlace, ownerPlace, countOf, reckon, sumOf}
 use Rattle.files.specs.Checks.{firstWrong, isNumber, isTotal, isCount}
 

@@ -9,7 +9,7 @@ use Rattle.std.specs.declared.option.Option.the-variants.{Some, None}
 use Rattle.fields.specs.Faults.{okOr}
 use Rattle.fields.specs.Field.{Working, rowNumber, ownerNumber, total, count, anyOf}
 use Rattle.layouts.specs.Layout.{Layout, Group, Place}
-use Rattle.records.specs.Entries.{reckonedBy}
+use Rattle.records.specs.Worked.{reckonedBy}
 use Rattle.records.specs.Conditions.{numberAt}
 use Rattle.records.specs.Row.{Entry, contents, originsOf, printRow}
 
