@@ -6,3 +6,5 @@ pub mod Advance
 pub mod Holding
 pub mod Wrong
 pub mod Keeping
+pub mod Stages
+pub mod Telling

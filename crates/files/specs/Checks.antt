@@ -93,12 +93,19 @@ isCount count = true
 abbrev pub wrong : ℕ → (Working → Bool) → Layout → List Entry → List ℕ → Option Fault
 wrong number looked l before row = firstWrong number looked (reckon l before (entryOf l row)) (originsOf l (markOf row)) (digitsOf l row)
 
-abbrev pub rowChecks : Layout → List Entry → List ℕ → List (Option Fault)
-rowChecks l before row =
+-- until the row is read, and then
+abbrev pub readChecks : Layout → List Entry → List ℕ → List (Option Fault)
+readChecks l before row =
     let m = markOf row in
+    row27 (length before + 1) ∷ (mark10 l m ∷ (order20 l before m ∷ (group21 l before m ∷ (faultIn (cellsOf l row) ∷ (conditions15 l (entryOf l row) ∷ [])))))
+
+abbrev pub workChecks : Layout → List Entry → List ℕ → List (Option Fault)
+workChecks l before row =
     let e = entryOf l row in
-    row27 (length before + 1) ∷ (mark10 l m ∷ (order20 l before m ∷ (group21 l before m ∷ (faultIn (cellsOf l row) ∷ (conditions15 l e ∷ (owner22 l before e ∷
-    (wrong 23 isNumber l before row ∷ (sum26 l before e ∷ (wrong 24 isTotal l before row ∷ (wrong 25 isCount l before row ∷ []))))))))))
+    owner22 l before e ∷ (wrong 23 isNumber l before row ∷ (sum26 l before e ∷ (wrong 24 isTotal l before row ∷ (wrong 25 isCount l before row ∷ []))))
+
+abbrev pub rowChecks : Layout → List Entry → List ℕ → List (Option Fault)
+rowChecks l before row = readChecks l before row ++ workChecks l before row
 
 abbrev pub rowFault : Layout → List Entry → List ℕ → Option Refusal
 rowFault l before row = inRow (length before + 1) (firstOf (rowChecks l before row))

@@ -15,12 +15,11 @@ ghost use Rattle.files.specs.Checks.{row27, mayStand, order20, full, group21, 
 ghost use Rattle.files.specs.Faults.{ofFile};
 ghost use Rattle.files.specs.Progress.{followersIn};
 ghost use Rattle.files.specs.Standing.{numberIn, Good, Stands, Next};
-ghost use Rattle.files.specs.Works.{workedOf};
+ghost use Rattle.records.specs.Worked.{workedOf};
 use crate::faults::FileFault;
 use crate::held::amount_in;
 use crate::held::field_of;
 use crate::owner::Owner;
-use crate::worked::Worked;
 use fields::cents::Cents;
 use layouts::book::Book;
 use layouts::book::largest_group;
@@ -29,15 +28,16 @@ use layouts::kinds::Kind;
 use layouts::kinds::KindPartialEq;
 use layouts::roles::is_follower;
 use layouts::roles::is_owner;
+use records::entries::Worked;
 
 #[derive(Clone, Copy)]
 pub struct Progress {
-    rows: usize,
-    last: Option<Kind>,
+    pub(crate) rows: usize,
+    pub(crate) last: Option<Kind>,
     owner: Option<Owner>,
     // The followers since the owner.
     following: usize,
-    sum: Cents,
+    pub(crate) sum: Cents,
     counted: usize,
 }
 

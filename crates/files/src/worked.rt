@@ -1,4 +1,4 @@
-// The fields that are worked out: what they must hold, and whether they do.
+// Whether the fields that are worked out hold what they must.
 ghost use mathlib.Core.Path.{_≡_};
 ghost use mathlib.Core.List.{map};
 ghost use Rattle.rows.specs.Refusals.{refusal};
@@ -9,34 +9,14 @@ ghost use Rattle.records.specs.Conditions.{numberIn};
 ghost use Rattle.records.specs.Held.{cellIn, digitsHeld};
 ghost use Rattle.files.specs.Checks.{isWrong, firstWrong};
 ghost use Rattle.files.specs.Faults.{ofFile};
-ghost use Rattle.files.specs.Works.{workedOf, numberFor, looksAt};
+ghost use Rattle.records.specs.Worked.{workedOf};
+ghost use Rattle.files.specs.Looks.{numberFor, looksAt};
 use crate::faults::FileFault;
 use fields::field::Field;
 use fields::field::Sort;
 use fields::field::Working;
 use records::contents::number_in;
-
-// What the worked fields of a row must hold. The total and the count are those with the row itself.
-#[derive(Clone, Copy)]
-pub struct Worked {
-    pub row_number: u64,
-    pub owner_number: u64,
-    pub total: u64,
-    pub count: u64,
-}
-
-impl Worked {
-    pub fn of(self, working: Working) -> u64
-        ensures { λ r. ⌜ r ≡ workedOf self (workingOf working) ⌝ }
-    {
-        match working {
-            Working::RowNumber => self.row_number,
-            Working::OwnerNumber => self.owner_number,
-            Working::Total => self.total,
-            Working::Count => self.count,
-        }
-    }
-}
+use records::entries::Worked;
 
 // Which worked fields are looked at.
 #[derive(Clone, Copy)]
@@ -75,7 +55,8 @@ fn is_wrong(field: &Field, look: Look, worked: Worked, row: &[u8; 750]) -> bool
     ensures { λ r. ⌜ r ≡ isWrong (looksAt look) (workedOf worked) (origin (fieldOf (now (field .entry)))) (numberIn (cellIn (fieldOf (now (field .entry))) (now (row .entry)))) ⌝ }
 {
     match field.sort {
-        Sort::Worked(working) => look.is_at(working) && number_in(field, row) != worked.of(working),
+        Sort::Worked(working) => look.is_at(working)
+            && number_in(field, row) != worked.number(working),
         _ => false,
     }
 }

@@ -2,7 +2,8 @@ use mathlib.Core.Path.{_≡_, refl, sym, ap, _∙_}
 use Rattle.std.proofs.shelf.Lists.{at-drop-all}
 use Rattle.std.specs.declared.option.Option.the-variants.{Some, None}
 use Rattle.fields.specs.Faults.{inRow}
-use Rattle.files.specs.Works.{workedOf, numberFor, looksAt}
+use Rattle.records.specs.Worked.{workedOf}
+use Rattle.files.specs.Looks.{numberFor, looksAt}
 use Rattle.files.proofs.Wrong.{wrongFrom, field-wrong, field-right}
 use Rattle.files.proofs.worked.check_worked.Needs as need
 

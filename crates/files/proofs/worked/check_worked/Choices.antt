@@ -1,6 +1,7 @@
 use mathlib.Core.Path.{_≡_}
 use lib.ListN.{drop}
-use Rattle.files.specs.Works.{workedOf, numberFor, looksAt}
+use Rattle.records.specs.Worked.{workedOf}
+use Rattle.files.specs.Looks.{numberFor, looksAt}
 use Rattle.files.proofs.Wrong.{wrongFrom}
 use Rattle.files.proofs.worked.check_worked.Given as given
 
