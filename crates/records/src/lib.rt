@@ -8,4 +8,5 @@ pub mod kinds;
 pub mod laws;
 mod origins;
 pub mod printing;
+mod taking;
 pub mod values;
