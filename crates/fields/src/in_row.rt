@@ -1,6 +1,6 @@
 // A field in its row of 750 bytes.
 ghost use mathlib.Core.Path.{_≡_};
-ghost use Prim.Native.Nat.{ℕ, _+_, _^_, _<_};
+ghost use Prim.Native.Nat.{_+_, _^_, _<_};
 ghost use Rattle.std.specs.Results.{Cases};
 ghost use Rattle.std.specs.Vec.{made};
 ghost use Rattle.std.specs.declared.option.Option.the-variants.{Some};
@@ -46,26 +46,26 @@ impl Field {
     }
 
     // The fault of a flaw, at its position.
-    fn fault(self, row_number: usize, flaw: Flaw) -> FieldFault
+    fn fault(self, row: usize, flaw: Flaw) -> FieldFault
         requires { ⌜ self .start + offset flaw < 2 ^ 64 ⌝ }
-        ensures { λ r. ⌜ Some (ofField r) ≡ inRow «row_number» (Some (located (fieldOf self) flaw)) ⌝ }
+        ensures { λ r. ⌜ Some (ofField r) ≡ inRow row (Some (located (fieldOf self) flaw)) ⌝ }
     {
         let start = self.start;
         match flaw {
             Flaw::Differs(at) => FieldFault::Differs {
-                row: row_number,
+                row,
                 position: start + at,
             },
             Flaw::Byte(at) => FieldFault::BadByte {
-                row: row_number,
+                row,
                 position: start + at,
             },
             Flaw::Empty => FieldFault::NotFilled {
-                row: row_number,
+                row,
                 position: start,
             },
             Flaw::Unfit => FieldFault::Unfit {
-                row: row_number,
+                row,
                 position: start,
             },
         }
