@@ -13,6 +13,7 @@ use Rattle.std.specs.declared.option.Option.the-variants.{Some}
 use Rattle.fields.specs.Field as s
 use Rattle.fields.specs.Meaning.{fieldOf}
 use Rattle.fields.specs.declared.field.Field.{Field}
+use Rattle.fields.specs.declared.field.Sort.the-variants.{Constant}
 use Rattle.layouts.specs.Layout.{Layout, Kind, fieldAt, noKind, found, orNone, kindOf}
 use Rattle.layouts.specs.Lawful.{Covers, LawfulKind, Lawful}
 
@@ -47,6 +48,10 @@ field-inside l w m =
     (l .kinds)
     (all-weaker (LawfulKind l) Fields (λ k law. covers-at 1 (k .fields) (lit≤ tt) (law .covers)) (l .kinds) (w .kinds))
     m
+
+-- what a read past the last field is taken to give
+abbrev pub unread : Field
+unread = record { start = 0; width = 0; sort = Constant (record { ptr = (0, 0); name = 0; now = [] }); required = false }
 
 read-at : (xs : List Field) (i : ℕ) (d : Field) → i < length xs → fieldOf (getD xs i d) ≡ fieldAt (map fieldOf xs) i
 read-at [] i d less = absurd (not-suc-le-zero less)

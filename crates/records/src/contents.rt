@@ -45,5 +45,5 @@ pub fn text_in<'a>(field: &Field, row: &'a [u8; 750]) -> &'a [u8]
 pub fn is_filled_in(field: &Field, row: &[u8; 750]) -> bool
     ensures { λ r. ⌜ r ≡ filled (family (sortOf (now (field .entry) .sort))) (cellIn (fieldOf (now (field .entry))) (now (row .entry))) ⌝ }
 {
-    field.is_filled(content_in(field, row))
+    field.sort.is_filled(content_in(field, row))
 }
