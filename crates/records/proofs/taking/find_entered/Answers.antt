@@ -22,10 +22,10 @@ loop-field-again c =
     let i = c .loop-field .field-index in
     let seen = c .loop-field .seen in
     elim (c .match-origin-of .came) [
-      in-Entered·else-seen-number w ↦
-        rw (w .seen-is) (seen-next xs (c .args .number) i seen (c .loop-field .inv) _ (meet-field xs i _ (c .loop-field-test .taken) (w .in-Entered .field-0) (w .in-Entered .ensures tt)) (w .if-seen-number .left))
-    | in-rest w ↦
-        rw (w .seen-is) (seen-pass xs (c .args .number) i seen (c .loop-field .inv) (pass-field xs i _ (c .loop-field-test .taken) (c .origin-of .result) (w .in-rest .not-Entered) (c .origin-of .ensures)))
+      | in-Entered·else-seen-number w ↦
+          rw (w .seen-is) (seen-next xs (c .args .number) i seen (c .loop-field .inv) _ (meet-field xs i _ (c .loop-field-test .taken) (w .in-Entered .field-0) (w .in-Entered .ensures tt)) (w .if-seen-number .left))
+      | in-rest w ↦
+          rw (w .seen-is) (seen-pass xs (c .args .number) i seen (c .loop-field .inv) (pass-field xs i _ (c .loop-field-test .taken) (c .origin-of .result) (w .in-rest .not-Entered) (c .origin-of .ensures)))
     ]
 
 pub returns : need.returns

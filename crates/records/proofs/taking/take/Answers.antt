@@ -63,6 +63,7 @@ returns g c =
     let is = c .fields .ensures ∙ ap (fieldsOf l) (kind .found ∙ ap markOf (w .same)) in
     let at = c .in-Continue-field .ensures tt in
     let here = at .2 ∙ ap (λ fs. getD (enteredOf fs) (c .args .number - 1) noField) is in
-    let taken = c .taken-from .ensures in
-    (take-value l row (w .long) (c .args .number) (g .B·Meant·met .lawful) (of-row l (c .in-Ok .whole .now) row None (w .same) (kind .refused)) fs is (at .0) (at .1) (fieldOf (c .in-Continue-field .field)) (at .2) (valueIn (c .taken-from .result)) (taken .value),
-     subst (λ f. TakenAt (c .args .row .ptr) f (c .taken-from .result)) here (taken .place))
+    let taken = c .taken-from .ensures in (
+      take-value l row (w .long) (c .args .number) (g .B·Meant·met .lawful) (of-row l (c .in-Ok .whole .now) row None (w .same) (kind .refused)) fs is (at .0) (at .1) (fieldOf (c .in-Continue-field .field)) (at .2) (valueIn (c .taken-from .result)) (taken .value),
+      subst (λ f. TakenAt (c .args .row .ptr) f (c .taken-from .result)) here (taken .place),
+    )
