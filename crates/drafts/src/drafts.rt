@@ -22,9 +22,9 @@ use crate::states::State;
 use files::progress::Progress;
 use layouts::book::Book;
 use layouts::kinds::Kind;
-use records::entries::Entry;
-use records::kinds::find_marked;
-use records::values::check_values;
+use records::Entry;
+use records::find_marked;
+use records::check_values;
 use rows::Carrier;
 
 #[derive(Drop)]

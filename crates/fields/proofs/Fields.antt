@@ -1,24 +1,22 @@
 -- A field reads as v exactly when v is written as it: one argument over every sort.
 use mathlib.Core.Path.{_≡_, refl, sym, ap, subst, _∙_}
-use mathlib.Core.Bool.{Bool, true, false, cond, not}
-use mathlib.Core.Logic.{⊎-elim}
+use mathlib.Core.Bool.{Bool, true, false, cond}
 use mathlib.Core.List.{List, [], _∷_, _++_}
 use Prim.Native.Nat.{ℕ, zero, suc, _+_, _-_, _^_, _<_, _≤_}
 use native.Mathlib.Omega.{arith}
-use lib.Dec.{leb, ltb, eqb}
+use lib.Dec.{ltb, eqb}
 use lib.ListN.{length, getD, replicate, length-append, length-replicate}
 use Rattle.std.proofs.shelf.Lists.{same-lists, getD-default}
-use Rattle.std.proofs.shelf.Tests.{and-parts, leb-true, ltb-true, ltb-false, lt-ltb, le-ltb, eq-eqb, eqb-true, not-false, not-from-true}
+use Rattle.std.proofs.shelf.Tests.{and-parts, leb-true, ltb-false, le-ltb, eq-eqb, eqb-true, not-false, not-from-true}
 use Rattle.std.specs.declared.option.Option.the-variants.{Some, None}
 use Rattle.std.specs.declared.result.Result.{Result}
 use Rattle.std.specs.declared.result.Result.the-variants.{Ok, Err}
 use Rattle.fields.specs.declared.flaws.Flaw.{Flaw}
 use Rattle.fields.specs.declared.flaws.Flaw.the-variants.{Differs, Byte, Empty, Unfit}
-use Rattle.fields.specs.Faults.{andThen}
 use Rattle.fields.specs.Places.{firstBad, checked}
-use Rattle.fields.specs.Digits.{noDigit, checkDigits, printed, readNumber, writeNumber}
+use Rattle.fields.specs.Digits.{noDigit, checkDigits, printed, readNumber}
 use Rattle.fields.specs.Text.{padded, takeText, readText, writeText}
-use Rattle.fields.specs.Field.{Field, Sort, constant, blank, text, word, number, code, date, amount, worked, long, Family, fixed, digits, letters, longDigits, figured, family, Value, num, txt, Cell, wide, inside, fits, differs, readFixed, writeLong, asNum, asTxt, rawRead, fixedIn, numIn, txtIn, rawWrite, listed, filled, gate, readField, writeField, Field-law, One-value, Read-is-written}
+use Rattle.fields.specs.Field.{Field, Sort, constant, blank, text, word, number, code, date, amount, worked, long, Family, fixed, digits, letters, longDigits, figured, family, num, txt, Cell, wide, inside, fits, differs, readFixed, writeLong, asNum, asTxt, rawRead, fixedIn, numIn, txtIn, rawWrite, listed, filled, gate, Field-law, One-value, Read-is-written}
 use Rattle.fields.proofs.Results.{Both, err-ok, then-ok, ok-then, past, passed}
 use Rattle.fields.proofs.Finding.{none-in, none-of, checked-ok, ok-checked}
 use Rattle.fields.proofs.NumberLaw.{number-law, length-printed}

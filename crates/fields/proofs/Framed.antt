@@ -1,14 +1,14 @@
 -- A field in its row: what its part is, and what a write to it leaves.
-use mathlib.Core.Path.{_≡_, refl, sym, ap, subst, _∙_}
+use mathlib.Core.Path.{_≡_, sym, ap, subst, _∙_}
 use mathlib.Core.Bool.{true}
 use mathlib.Core.List.{List, _++_}
 use Prim.Native.Nat.{ℕ, _+_, _-_, _≤_}
 use native.Mathlib.Omega.{arith}
 use lib.Dec.{leb}
 use lib.ListN.{length, take, drop}
-use borrow.Rule.Slice.PartMut.{putMid, put-same}
+use borrow.Rule.Slice.PartMut.{putMid}
 use Rattle.std.proofs.shelf.Lists.{drop-drop, length-take-le, length-drop, drop-at, take-at, take-all}
-use Rattle.std.proofs.shelf.Tests.{and-parts, leb-true}
+use Rattle.std.proofs.shelf.Tests.{and-parts, and-from, leb-true, le-leb}
 use Rattle.std.specs.declared.option.Option.the-variants.{Some, None}
 use Rattle.std.specs.declared.result.Result.{Result}
 use Rattle.std.specs.declared.result.Result.the-variants.{Ok, Err}
@@ -21,13 +21,16 @@ use Rattle.fields.specs.Faults.{inRow, faultIn}
 use Rattle.fields.specs.Places.{checked}
 use Rattle.fields.specs.Digits.{checkDigits, readNumber}
 use Rattle.fields.specs.Text.{textLen, trimmed, readText}
-use Rattle.fields.specs.Field.{Field, Family, fixed, digits, letters, longDigits, figured, family, num, txt, Cell, wide, inside, fits, differs, rawRead, gate, readField, writeField}
+use Rattle.fields.specs.Field.{Field, Family, fixed, digits, letters, longDigits, figured, family, txt, Cell, wide, inside, fits, differs, rawRead, gate, readField, writeField}
 use Rattle.fields.specs.InRow.{located, atField, part, placed, LiesAt, FrontOf, ReadAs, WrittenAs}
 use Rattle.fields.specs.Meaning.{cellOf}
 use Rattle.fields.proofs.Results.{then-ok, passed}
 use Rattle.fields.proofs.Trim.{textLen-le}
 use Rattle.fields.proofs.TextLaw.{check-is}
 use Rattle.fields.proofs.Fields.{through, long-is, field-law}
+
+pub fits-of : (f : Field) → 1 ≤ f .start → f .start + f .width ≤ 751 → wide (f .sort) (f .width) ≡ true → fits f ≡ true
+fits-of f a b w = and-from (inside (f .start) (f .width)) (wide (f .sort) (f .width)) (and-from (leb 1 (f .start)) (leb (f .start + f .width) 751) (le-leb 1 (f .start) a) (le-leb (f .start + f .width) 751 b)) w
 
 pub in-row : (f : Field) → fits f ≡ true → (1 ≤ f .start) × (f .start + f .width ≤ 751)
 in-row f fit =

@@ -9,4 +9,4 @@ mod Writing
 mod Calendar
 mod Lists
 mod Offsets
-mod Framed
+pub mod Framed

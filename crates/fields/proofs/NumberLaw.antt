@@ -1,7 +1,6 @@
 -- Digits read as n exactly when n fits them and is printed as them.
 use mathlib.Core.Path.{_≡_, refl, sym, ap, subst, _∙_}
-use mathlib.Core.Bool.{true, false, cond}
-use mathlib.Core.Logic.{⊎-elim}
+use mathlib.Core.Bool.{false}
 use mathlib.Core.List.{List, [], _∷_}
 use Prim.Native.Nat.{ℕ, zero, suc, _+_, _-_, _*_, _/_, _%_, _^_, _<_, _≤_}
 use native.Mathlib.Nat.{pow-succ', mul-assoc, add-mul, add-assoc, mod-lt, mod-eq-of-lt}
@@ -10,9 +9,8 @@ use lib.Arith.{digits-lt, digits-div, digits-mod, mod-mul}
 use lib.Dec.{leb, ltb}
 use lib.ListN.{length}
 use Rattle.std.specs.shelf.Lists.{All}
-use Rattle.std.proofs.shelf.Tests.{le-leb, and-from, and-parts, leb-true, not-false, not-from-true, lt-ltb, ltb-true, cases-bool}
-use Rattle.std.specs.declared.result.Result.{Result}
-use Rattle.std.specs.declared.result.Result.the-variants.{Ok, Err}
+use Rattle.std.proofs.shelf.Tests.{le-leb, and-from, and-parts, leb-true, not-false, not-from-true, lt-ltb, ltb-true}
+use Rattle.std.specs.declared.result.Result.the-variants.{Ok}
 use Rattle.fields.specs.declared.flaws.Flaw.the-variants.{Byte, Unfit}
 use Rattle.fields.specs.Places.{firstBad}
 use Rattle.fields.specs.Digits.{digit, noDigit, checkDigits, value, printed, readNumber, writeNumber}

@@ -1,8 +1,8 @@
 -- A flaw lies in its field.
-use mathlib.Core.Path.{_≡_, refl, sym, ap, subst, _∙_}
+use mathlib.Core.Path.{_≡_, refl, subst}
 use mathlib.Core.Bool.{Bool, true, false, cond}
-use mathlib.Core.List.{List, []}
-use Prim.Native.Nat.{ℕ, _+_, _^_, _≤_}
+use mathlib.Core.List.{List}
+use Prim.Native.Nat.{ℕ, _^_, _≤_}
 use native.Mathlib.Omega.{arith}
 use lib.Dec.{ltb, eqb}
 use lib.ListN.{length}
@@ -15,9 +15,9 @@ use Rattle.fields.specs.declared.flaws.Flaw.{Flaw}
 use Rattle.fields.specs.declared.flaws.Flaw.the-variants.{Differs, Byte, Empty, Unfit}
 use Rattle.fields.specs.Faults.{andThen}
 use Rattle.fields.specs.Places.{firstBad, someBad, checked}
-use Rattle.fields.specs.Digits.{noDigit, checkDigits, readNumber, writeNumber}
+use Rattle.fields.specs.Digits.{noDigit, checkDigits, readNumber}
 use Rattle.fields.specs.Text.{badText, textLen, trimmed, checkText, takeText, readText, writeText}
-use Rattle.fields.specs.Field.{Field, Sort, Family, fixed, digits, letters, longDigits, figured, family, num, txt, Cell, fits, differs, readFixed, writeLong, rawRead, fixedIn, numIn, txtIn, rawWrite, listed, filled, gate, readField, writeField}
+use Rattle.fields.specs.Field.{Field, Sort, Family, fixed, digits, letters, longDigits, figured, family, num, txt, Cell, fits, differs, writeLong, rawRead, numIn, txtIn, rawWrite, listed, filled, gate, readField, writeField}
 use Rattle.fields.specs.InRow.{offset}
 use Rattle.fields.proofs.Results.{ok-err}
 use Rattle.fields.proofs.Finding.{first-le-end}

@@ -1,16 +1,16 @@
 -- A text field reads as t exactly when t fits it and is written as it.
 use mathlib.Core.Path.{_≡_, refl, sym, ap, subst, _∙_}
-use mathlib.Core.Bool.{Bool, true, false, cond}
+use mathlib.Core.Bool.{false}
 use mathlib.Core.Logic.{⊎-elim}
-use mathlib.Core.List.{List, [], _∷_, _++_}
-use Prim.Native.Nat.{ℕ, _+_, _-_, _<_, _≤_}
+use mathlib.Core.List.{List}
+use Prim.Native.Nat.{ℕ, _+_, _-_, _≤_}
 use native.Mathlib.Omega.{arith}
 use lib.Dec.{ltb}
 use lib.ListN.{length, getD, take}
 use Rattle.std.proofs.shelf.Lists.{take-all, take-at, length-take-le}
 use Rattle.std.proofs.shelf.Tests.{le-ltb, cases-lt}
 use Rattle.std.proofs.shelf.Ways.{tells}
-use Rattle.std.specs.declared.result.Result.the-variants.{Ok, Err}
+use Rattle.std.specs.declared.result.Result.the-variants.{Ok}
 use Rattle.fields.specs.declared.flaws.Flaw.the-variants.{Byte, Unfit}
 use Rattle.fields.specs.Places.{firstBad}
 use Rattle.fields.specs.Text.{badText, textLen, trimmed, padded, checkText, takeText, readText, writeText}

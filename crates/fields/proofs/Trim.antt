@@ -1,6 +1,6 @@
 -- What is left of a field without its last blanks.
 use mathlib.Core.Path.{_≡_, refl, sym, ap, subst, _∙_}
-use mathlib.Core.Bool.{Bool, true, false, cond, _&&_}
+use mathlib.Core.Bool.{false, _&&_}
 use mathlib.Core.Logic.{_⊎_, ⊎-elim}
 use mathlib.Core.List.{List, [], _∷_, _++_, append-nil}
 use Prim.Native.Nat.{ℕ, zero, suc, _+_, _-_, _<_, _≤_}
@@ -8,7 +8,7 @@ use native.Mathlib.Omega.{arith}
 use lib.Dec.{eqb}
 use lib.ListN.{length, getD, take, drop, replicate}
 use Rattle.std.proofs.shelf.Lists.{take-more, length-take-le, length-append, length-drop, drop-at, take-at, take-all, drop-all}
-use Rattle.std.proofs.shelf.Tests.{and-parts, cases-bool, eqb-true, ne-eqb, eqb-false}
+use Rattle.std.proofs.shelf.Tests.{and-parts, cases-bool, eqb-true, ne-eqb}
 use Rattle.std.proofs.shelf.Ways.{tells}
 use borrow.Rule.Slice.PartMut.{putMid}
 use Rattle.std.specs.Holes.{between}

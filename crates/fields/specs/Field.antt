@@ -10,7 +10,7 @@ use Rattle.std.specs.declared.option.Option.the-variants.{Some, None}
 use Rattle.std.specs.declared.result.Result.{Result}
 use Rattle.std.specs.declared.result.Result.the-variants.{Ok, Err}
 use Rattle.fields.specs.declared.flaws.Flaw.{Flaw}
-use Rattle.fields.specs.declared.flaws.Flaw.the-variants.{Differs, Byte, Empty, Unfit}
+use Rattle.fields.specs.declared.flaws.Flaw.the-variants.{Differs, Empty, Unfit}
 use Rattle.fields.specs.Faults.{andThen}
 use Rattle.fields.specs.Places.{someBad, checked}
 use Rattle.fields.specs.Digits.{checkDigits, printed, readNumber, writeNumber}

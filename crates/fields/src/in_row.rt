@@ -1,11 +1,11 @@
 // A field in its row of 750 bytes.
 ghost use mathlib.Core.Path.{_≡_};
-ghost use Prim.Native.Nat.{ℕ, _+_, _^_, _<_};
+ghost use Prim.Native.Nat.{_+_, _^_, _<_};
 ghost use Rattle.std.specs.Results.{Cases};
 ghost use Rattle.std.specs.Vec.{made};
 ghost use Rattle.std.specs.declared.option.Option.the-variants.{Some};
 ghost use Rattle.fields.specs.Faults.{ofField, refusalIn, inRow, faultIn};
-ghost use Rattle.fields.specs.Field.{family, filled, wide, fits, readField, writeField};
+ghost use Rattle.fields.specs.Field.{wide, fits, readField, writeField};
 ghost use Rattle.fields.specs.InRow.{offset, located, atField, part, ReadAs, WrittenAs};
 ghost use Rattle.fields.specs.Meaning.{sortOf, fieldOf, cellOf};
 use crate::faults::FieldFault;
@@ -16,7 +16,6 @@ use crate::field::Working;
 use crate::flaws::Flaw;
 use crate::parts::read_part;
 use crate::parts::write_part;
-use crate::values::is_filled;
 
 // Whether a width is one of the sort.
 fn is_wide(sort: Sort, width: usize) -> bool
@@ -46,34 +45,27 @@ impl Field {
             && is_wide(self.sort, self.width)
     }
 
-    // Whether a content fills the field: not 0, not empty, not all zeros.
-    pub fn is_filled(self, content: Content) -> bool
-        ensures { λ r. ⌜ r ≡ filled (family (sortOf (self .sort))) (cellOf (content .entry)) ⌝ }
-    {
-        is_filled(self.sort, content)
-    }
-
     // The fault of a flaw, at its position.
-    fn fault(self, row_number: usize, flaw: Flaw) -> FieldFault
+    fn fault(self, row: usize, flaw: Flaw) -> FieldFault
         requires { ⌜ self .start + offset flaw < 2 ^ 64 ⌝ }
-        ensures { λ r. ⌜ Some (ofField r) ≡ inRow «row_number» (Some (located (fieldOf self) flaw)) ⌝ }
+        ensures { λ r. ⌜ Some (ofField r) ≡ inRow row (Some (located (fieldOf self) flaw)) ⌝ }
     {
         let start = self.start;
         match flaw {
             Flaw::Differs(at) => FieldFault::Differs {
-                row: row_number,
+                row,
                 position: start + at,
             },
             Flaw::Byte(at) => FieldFault::BadByte {
-                row: row_number,
+                row,
                 position: start + at,
             },
             Flaw::Empty => FieldFault::NotFilled {
-                row: row_number,
+                row,
                 position: start,
             },
             Flaw::Unfit => FieldFault::Unfit {
-                row: row_number,
+                row,
                 position: start,
             },
         }

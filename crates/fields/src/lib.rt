@@ -6,7 +6,7 @@ mod digits;
 pub mod faults;
 pub mod field;
 mod flaws;
-pub mod in_row;
+mod in_row;
 pub mod laws;
 mod parts;
 mod texts;

@@ -1,7 +1,6 @@
 // A field's own part of a row, read and written.
 ghost use mathlib.Core.Path.{_≡_};
 ghost use mathlib.Core.Bool.{true};
-ghost use Prim.Native.Nat.{ℕ, _≤_};
 ghost use lib.ListN.{length};
 ghost use Rattle.std.specs.Results.{Cases};
 ghost use Rattle.std.specs.declared.result.Result.the-variants.{Ok, Err};
@@ -21,18 +20,24 @@ use crate::texts::put_padded;
 use crate::texts::read_text;
 use crate::values::check_value;
 
+// The content of a constant; of a blank, nothing.
+fn fixed_content(sort: Sort) -> &'static [u8]
+    ensures { λ r. ⌜ now r ≡ fixedOf (family (sortOf sort)) ⌝ }
+{
+    match sort {
+        Sort::Constant(content) => content,
+        _ => &[],
+    }
+}
+
 // The bytes as they are, whatever the list of the sort.
 fn read_bytes<'a>(sort: Sort, part: &'a [u8]) -> Result<Content<'a>, Flaw>
     requires { ⌜ wide (sortOf sort) (length (now part)) ≡ true ⌝ }
     ensures { λ r. ⌜ Cases r (λ v. (rawRead (family (sortOf sort)) (now (part .entry)) ≡ Ok (cellOf v)) × LiesAt (part .entry .ptr) v) (λ e. rawRead (family (sortOf sort)) (now (part .entry)) ≡ Err e) ⌝ }
 {
     match sort {
-        Sort::Constant(content) => {
-            check_fixed(content, part)?;
-            Ok(Content::Fixed)
-        }
-        Sort::Blank => {
-            check_fixed(&[], part)?;
+        Sort::Constant(_) | Sort::Blank => {
+            check_fixed(fixed_content(sort), part)?;
             Ok(Content::Fixed)
         }
         Sort::Text | Sort::Word(_) => Ok(Content::Text(read_text(part)?)),
@@ -45,6 +50,7 @@ fn read_bytes<'a>(sort: Sort, part: &'a [u8]) -> Result<Content<'a>, Flaw>
     }
 }
 
+// What the part holds, or what is wrong with it.
 pub fn read_part<'a>(field: Field, part: &'a [u8]) -> Result<Content<'a>, Flaw>
     requires fit { ⌜ fits (fieldOf field) ≡ true ⌝ }
     requires width { ⌜ length (now part) ≡ field .width ⌝ }
@@ -74,16 +80,6 @@ fn check_bytes(sort: Sort, width: usize, content: Content) -> Result<(), Flaw>
     }
 }
 
-// The content of a constant; of a blank, nothing.
-fn fixed_content(sort: Sort) -> &'static [u8]
-    ensures { λ r. ⌜ now r ≡ fixedOf (family (sortOf sort)) ⌝ }
-{
-    match sort {
-        Sort::Constant(content) => content,
-        _ => &[],
-    }
-}
-
 // Writes a content that fits.
 fn put(sort: Sort, part: &mut [u8], content: Content)
     requires { ⌜ rawWrite (family (sortOf sort)) (length (now part)) (cellOf content) ≡ Ok (shown (family (sortOf sort)) (length (now part)) (cellOf content)) ⌝ }
@@ -96,6 +92,7 @@ fn put(sort: Sort, part: &mut [u8], content: Content)
     }
 }
 
+// Writes a content that is found good, and nothing before.
 pub fn write_part(field: Field, part: &mut [u8], content: Content) -> Result<(), Flaw>
     requires fit { ⌜ fits (fieldOf field) ≡ true ⌝ }
     requires width { ⌜ length (now part) ≡ field .width ⌝ }

@@ -1,10 +1,10 @@
 // Texts: their bytes, then blanks.
 ghost use mathlib.Core.Path.{_≡_};
-ghost use Prim.Native.Nat.{ℕ, _≤_};
+ghost use Prim.Native.Nat.{_≤_};
 ghost use lib.ListN.{length};
 ghost use Rattle.std.specs.Results.{Cases};
 ghost use Rattle.std.specs.declared.result.Result.the-variants.{Ok, Err};
-ghost use Rattle.fields.specs.Text.{textLen, trimmed, padded, readText};
+ghost use Rattle.fields.specs.Text.{trimmed, padded, readText};
 use crate::bytes::check_text;
 use crate::flaws::Flaw;
 

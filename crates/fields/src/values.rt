@@ -40,15 +40,18 @@ fn has_word(words: &[&[u8]], text: &[u8]) -> bool
     false
 }
 
-pub fn is_filled(sort: Sort, content: Content) -> bool
-    ensures { λ r. ⌜ r ≡ filled (family (sortOf sort)) (cellOf (content .entry)) ⌝ }
-{
-    match (sort, content) {
-        (Sort::Text | Sort::Word(_), Content::Text(text)) => text.len() > 0,
-        (Sort::LongDigits, Content::Text(digits)) => has_nonzero(digits),
-        (Sort::Number | Sort::Code(_) | Sort::Date | Sort::Amount, Content::Number(number)) =>
-            number > 0,
-        _ => true,
+impl Sort {
+    // Whether a content of this sort is more than nothing: 0, an empty text and digits that are all zeros are not.
+    pub fn is_filled(self, content: Content) -> bool
+        ensures { λ r. ⌜ r ≡ filled (family (sortOf self)) (cellOf (content .entry)) ⌝ }
+    {
+        match (self, content) {
+            (Sort::Text | Sort::Word(_), Content::Text(text)) => text.len() > 0,
+            (Sort::LongDigits, Content::Text(digits)) => has_nonzero(digits),
+            (Sort::Number | Sort::Code(_) | Sort::Date | Sort::Amount, Content::Number(number)) =>
+                number > 0,
+            _ => true,
+        }
     }
 }
 
@@ -63,10 +66,11 @@ fn is_listed(sort: Sort, content: Content) -> bool
     }
 }
 
+// Whether a content is filled where it must be, and listed where it is filled.
 pub fn check_value(sort: Sort, required: bool, content: Content) -> Result<(), Flaw>
     ensures { λ r. ⌜ Cases r (λ _. gate (sortOf sort) required (cellOf (content .entry)) ≡ Ok (cellOf (content .entry))) (λ e. gate (sortOf sort) required (cellOf (content .entry)) ≡ Err e) ⌝ }
 {
-    if is_filled(sort, content) {
+    if sort.is_filled(content) {
         if is_listed(sort, content) {
             Ok(())
         } else {

@@ -26,8 +26,8 @@ use fields::cents::CentsPartialEq;
 use layouts::book::Book;
 use layouts::kinds::Kind;
 use layouts::kinds::KindPartialEq;
-use records::judging::judge;
-use records::kinds::find_kind;
+use records::judge;
+use records::find_kind;
 use rows::Source;
 
 // How many rows a file has, and their summed amount.

@@ -2,9 +2,9 @@
 ghost use mathlib.Core.Path.{_≡_};
 ghost use Rattle.files.specs.declared.faults.FileFault.the-variants.{Row};
 ghost use Rattle.files.specs.Faults.{ofFile};
-use records::faults::RowFault;
-use records::faults::RowFaultDebug;
-use records::faults::RowFaultPartialEq;
+use records::RowFault;
+use records::RowFaultDebug;
+use records::RowFaultPartialEq;
 use rows::Layer;
 use rows::Refusal;
 

@@ -11,7 +11,7 @@ use layouts::book::Book;
 use layouts::book::summed_place;
 use layouts::kinds::Kind;
 use layouts::kinds::KindPartialEq;
-use records::contents::number_in;
+use records::number_in;
 
 // An empty field where the kind has none at the place.
 pub(crate) fn field_of<B: Book>(book: &B, kind: Kind, place: usize) -> Field

@@ -15,8 +15,8 @@ use crate::held::field_of;
 use fields::is_same;
 use layouts::book::Book;
 use layouts::kinds::Group;
-use records::contents::number_in;
-use records::contents::text_in;
+use records::number_in;
+use records::text_in;
 
 #[derive(Clone, Copy)]
 pub struct Owner {

@@ -28,7 +28,7 @@ use layouts::kinds::Kind;
 use layouts::kinds::KindPartialEq;
 use layouts::roles::is_follower;
 use layouts::roles::is_owner;
-use records::entries::Worked;
+use records::Worked;
 
 #[derive(Clone, Copy)]
 pub struct Progress {

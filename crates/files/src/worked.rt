@@ -15,8 +15,8 @@ use crate::faults::FileFault;
 use fields::field::Field;
 use fields::field::Sort;
 use fields::field::Working;
-use records::contents::number_in;
-use records::entries::Worked;
+use records::number_in;
+use records::Worked;
 
 // Which worked fields are looked at.
 #[derive(Clone, Copy)]

@@ -16,17 +16,17 @@ pub trait Told {
         ensures { λ r. ⌜ r ≡ said ⌝ };
 }
 
-// The number N.
+// The number MOST.
 #[derive(Clone, Copy)]
-pub struct Limit<const N: usize>;
+pub struct Limit<const MOST: usize>;
 
-pub impl<const N: usize> Told for Limit<N> as LimitTold {
+pub impl<const MOST: usize> Told for Limit<MOST> as LimitTold {
     type Value = usize;
 
-    ghost said = { N };
+    ghost said = { MOST };
 
     fn get(self) -> usize {
-        N
+        MOST
     }
 }
 

@@ -63,9 +63,10 @@ cells-read (f ∷ fs) bs (c ∷ cs) e =
     let is : b ++ rest ≡ bs = cc in
     let here : readField f (take (f .width) bs) ≡ Ok c = subst (λ x. readField f x ≡ Ok c) (sym (take-at b rest (f .width) (one .0)) ∙ ap (take (f .width)) is) (one .1) in
     let there : readCells fs (drop (f .width) bs) ≡ Ok cs = subst (λ x. readCells fs x ≡ Ok cs) (sym (drop-at b rest (f .width) (one .0)) ∙ ap (drop (f .width)) is) (more .1) in
-    let len : length bs ≡ f .width + widths fs = sym (ap length is) ∙ omega (arith, length-append b rest, one .0, more .0) in
-    (len,
-     ok-then (atField f (readField f (take (f .width) bs))) _ c (c ∷ cs) (ok-at f _ c here) (ok-then (readCells fs (drop (f .width) bs)) _ cs (c ∷ cs) there refl))
+    let len : length bs ≡ f .width + widths fs = sym (ap length is) ∙ omega (arith, length-append b rest, one .0, more .0) in (
+      len,
+      ok-then (atField f (readField f (take (f .width) bs))) _ c (c ∷ cs) (ok-at f _ c here) (ok-then (readCells fs (drop (f .width) bs)) _ cs (c ∷ cs) there refl),
+    )
 
 -- the content that a field of each origin has
 abbrev pub Shape : Origin → Cell → Type 0

@@ -1,6 +1,6 @@
 -- A row of a known kind, judged field by field.
 use mathlib.Core.Path.{_≡_, refl, sym, ap, subst, _∙_}
-use mathlib.Core.List.{List, [], _∷_}
+use mathlib.Core.List.{List, [], _∷_, map}
 use Prim.Native.Nat.{ℕ, _<_}
 use lib.Dec.{lit≤}
 use lib.ListN.{length, drop}
@@ -18,9 +18,10 @@ use Rattle.records.specs.Cells.{origins, cells, valuesIn, digitsIn, writeCells
 use Rattle.records.specs.Conditions.{cellAt, broken, Named}
 use Rattle.records.specs.Row.{fieldsOf, originsOf, contents, mark10, conditions15, markOf, cellsOf, entryOf, digitsOf, rowFaults}
 use Rattle.records.specs.Held.{cellIn, cellsIn, fieldsFault, digitsHeld}
+use Rattle.records.specs.Taking.{enteredOf}
 use Rattle.records.proofs.Options.{some-none, no-fault}
 use Rattle.records.proofs.Cells.{Shaped, Alike, cells-write, shaped, dealt-again, alike}
-use Rattle.records.proofs.Held.{cell-at, read-held, digits-in}
+use Rattle.records.proofs.Held.{cell-at, read-held, digits-in, values-in}
 use Rattle.records.proofs.Named.{alike-at, broken-same}
 use Rattle.records.proofs.Law.{lawful-kind, whole}
 
@@ -71,6 +72,10 @@ module _ (l : Layout) (law : Lawful l) (row : List ℕ) (len : length row ≡ 75
       let fs = fieldsOf l (markOf row) in
       ap (λ x. digitsIn (originsOf l (markOf row)) (okOr [] x)) cells-good ∙ digits-in fs row held-shaped
 
+  -- the entry's values are what the fields that it has values for hold
+  pub held-values : map Some (entryOf l row .values) ≡ map (λ f. cellIn f row) (enteredOf (fieldsOf l (markOf row)))
+  held-values = ap (λ x. map Some (valuesIn (originsOf l (markOf row)) (okOr [] x))) cells-good ∙ values-in (fieldsOf l (markOf row)) row held-shaped
+
 -- what the three checks find, one after the other
 second : (n : ℕ) (x : Refusal) (a b c : Option Fault) → a ≡ None → Some x ≡ inRow n b → Some x ≡ inRow n (firstOf (a ∷ (b ∷ (c ∷ []))))
 second n x None None c h e = some-none e
@@ -83,22 +88,28 @@ third n o None None (Some f) h k e = e
 third n o None (Some f) c h k e = some-none k
 third n o (Some f) b c h k e = some-none h
 
--- fs and cs are the fields and the conditions that the book answers
-module _ (l : Layout) (law : Lawful l) (row : List ℕ) (n : ℕ) (known : None ≡ inRow n (mark10 l (markOf row))) (fs : List Field) (is : fs ≡ fieldsOf l (markOf row)) where
+-- fs and cs are the fields and the conditions that the book answers for the kind with the mark m
+module _ (l : Layout) (law : Lawful l) (row : List ℕ) (n m : ℕ) (found : m ≡ markOf row) (known : None ≡ inRow n (mark10 l (markOf row))) (fs : List Field) (answered : fs ≡ fieldsOf l m) where
+  kind-known : mark10 l (markOf row) ≡ None
+  kind-known = no-fault n _ (sym known)
+
+  is : fs ≡ fieldsOf l (markOf row)
+  is = answered ∙ ap (fieldsOf l) found
+
   pub at-fields : (x : Refusal) → Some x ≡ inRow n (fieldsFault fs row) → Some x ≡ inRow n (firstOf (rowFaults l row))
   at-fields x e =
-      let k = no-fault n _ (sym known) in
-      second n x (mark10 l (markOf row)) (faultIn (cellsOf l row)) (conditions15 l (entryOf l row)) k
-      (e ∙ ap (inRow n) (ap (λ fs. fieldsFault fs row) is ∙ sym (fault-held l law row k)))
+      second n x (mark10 l (markOf row)) (faultIn (cellsOf l row)) (conditions15 l (entryOf l row)) kind-known
+      (e ∙ ap (inRow n) (ap (λ fs. fieldsFault fs row) is ∙ sym (fault-held l law row kind-known)))
 
-  pub at-conditions : length row ≡ 750 → (cs : List Condition) → cs ≡ kindOf l (markOf row) .conditions → None ≡ inRow n (fieldsFault fs row) → (o : Option Refusal) → o ≡ inRow n (broken fs (cellsIn fs row) cs) → o ≡ inRow n (firstOf (rowFaults l row))
-  at-conditions len cs same good o e =
-      let k = no-fault n _ (sym known) in
-      let g : fieldsFault (fieldsOf l (markOf row)) row ≡ None = ap (λ fs. fieldsFault fs row) (sym is) ∙ no-fault n _ (sym good) in
-      third n o (mark10 l (markOf row)) (faultIn (cellsOf l row)) (conditions15 l (entryOf l row)) k (fault-held l law row k ∙ g)
-      (e ∙ ap (inRow n) (ap (λ fs. broken fs (cellsIn fs row) cs) is ∙ ap (broken (fieldsOf l (markOf row)) (cellsIn (fieldsOf l (markOf row)) row)) same ∙ sym (conditions-held l law row len k g)))
+  module _ (cs : List Condition) (same : cs ≡ kindOf l m .conditions) where
+    pub named : All (Named fs) cs
+    named =
+        let all = lawful-kind l law (markOf row) kind-known .0 .conditions in
+        subst (λ fs. All (Named fs) cs) (sym is) (subst (All (Named (fieldsOf l (markOf row)))) (sym (same ∙ ap (λ m. kindOf l m .conditions) found)) all)
 
-  pub named : (cs : List Condition) → cs ≡ kindOf l (markOf row) .conditions → All (Named fs) cs
-  named cs same =
-      let all = lawful-kind l law (markOf row) (no-fault n _ (sym known)) .0 .conditions in
-      subst (λ fs. All (Named fs) cs) (sym is) (subst (All (Named (fieldsOf l (markOf row)))) (sym same) all)
+    pub at-conditions : length row ≡ 750 → None ≡ inRow n (fieldsFault fs row) → (o : Option Refusal) → o ≡ inRow n (broken fs (cellsIn fs row) cs) → o ≡ inRow n (firstOf (rowFaults l row))
+    at-conditions len good o e =
+        let good′ : fieldsFault (fieldsOf l (markOf row)) row ≡ None = ap (λ fs. fieldsFault fs row) (sym is) ∙ no-fault n _ (sym good) in
+        let there = ap (λ fs. broken fs (cellsIn fs row) cs) is ∙ ap (broken (fieldsOf l (markOf row)) (cellsIn (fieldsOf l (markOf row)) row)) (same ∙ ap (λ m. kindOf l m .conditions) found) in
+        third n o (mark10 l (markOf row)) (faultIn (cellsOf l row)) (conditions15 l (entryOf l row)) kind-known (fault-held l law row kind-known ∙ good′)
+        (e ∙ ap (inRow n) (there ∙ sym (conditions-held l law row len kind-known good′)))

@@ -91,14 +91,15 @@ module _ (l : Layout) (law : Lawful l) where
       let w : writeCells fs cs ≡ Ok row = cells-write fs row cs (len ∙ sym (whole m (n .0))) (p .1) in
       let sh = shaped fs cs row w in
       let again = dealt-again os cs sh in
-      let prints : writeCells fs (cells os (valuesIn os cs) (digitsIn os cs)) ≡ Ok row = ap (writeCells fs) again ∙ w in
-      (record {
-        known = n .0;
-        valued = subst (λ x. wrongValue (sortsAsked os) (valuesIn os x) ≡ None) (sym here) (none-wrong os cs sh);
-        prints = subst (λ x. unprinted fs (cells os (valuesIn os x) []) ≡ None) (sym here) (all-printed fs (cells os (valuesIn os cs) (digitsIn os cs)) (cells os (valuesIn os cs) []) row (alike os (valuesIn os cs) (digitsIn os cs) []) prints);
-        keeps = n .1 .1 .0;
-      },
-      subst (λ x. writeCells fs (cells os (valuesIn os x) (digitsIn os x)) ≡ Ok row) (sym here) prints)
+      let prints : writeCells fs (cells os (valuesIn os cs) (digitsIn os cs)) ≡ Ok row = ap (writeCells fs) again ∙ w in (
+        record {
+          known = n .0;
+          valued = subst (λ x. wrongValue (sortsAsked os) (valuesIn os x) ≡ None) (sym here) (none-wrong os cs sh);
+          prints = subst (λ x. unprinted fs (cells os (valuesIn os x) []) ≡ None) (sym here) (all-printed fs (cells os (valuesIn os cs) (digitsIn os cs)) (cells os (valuesIn os cs) []) row (alike os (valuesIn os cs) (digitsIn os cs) []) prints);
+          keeps = n .1 .1 .0;
+        },
+        subst (λ x. writeCells fs (cells os (valuesIn os x) (digitsIn os x)) ≡ Ok row) (sym here) prints,
+      )
 
   -- a row that was printed reads back as what it was printed from
   pub printed : (e : Entry) (ws row : List ℕ) → mark10 l (e .mark) ≡ None → printRow l e ws ≡ Ok row → Printed l e ws row
@@ -123,19 +124,22 @@ module _ (l : Layout) (law : Lawful l) where
 
   pub writes : (e : Entry) (ws row : List ℕ) → Acceptable l e → printRow l e ws ≡ Ok row → (length row ≡ 750) × (entryOf l row ≡ e) × (digitsOf l row ≡ ws) × (firstOf (rowFaults l row) ≡ None)
   writes e ws row a p =
-      let is = printed e ws row (a .known) p in
-      (is .long, is .entry, is .digits,
-       all-none (rowFaults l row) (ap (mark10 l) (is .mark) ∙ a .known, (fault-ok (cellsOf l row) _ (is .cells), (ap (conditions15 l) (is .entry) ∙ a .keeps, tt))))
+      let is = printed e ws row (a .known) p in (
+        is .long,
+        is .entry,
+        is .digits,
+        all-none (rowFaults l row) (ap (mark10 l) (is .mark) ∙ a .known, (fault-ok (cellsOf l row) _ (is .cells), (ap (conditions15 l) (is .entry) ∙ a .keeps, tt))),
+      )
 
   pub row-law : Row-law l
   row-law row e ws = (
     (λ h. let p = answered (firstOf (rowFaults l row)) _ _ (h .1) in
-          let q = reads row (h .0) (p .0) in
-          let ent : entryOf l row ≡ e = ap (λ r. r .entry) (p .1) in
-          let dig : digitsOf l row ≡ ws = ap (λ r. r .digits) (p .1) in
-          (subst (Acceptable l) ent (q .0), ap (λ d. printRow l e d) (sym dig) ∙ ap (λ x. printRow l x (digitsOf l row)) (sym ent) ∙ q .1)),
+        let q = reads row (h .0) (p .0) in
+        let ent : entryOf l row ≡ e = ap (λ r. r .entry) (p .1) in
+        let dig : digitsOf l row ≡ ws = ap (λ r. r .digits) (p .1) in
+        (subst (Acceptable l) ent (q .0), ap (λ d. printRow l e d) (sym dig) ∙ ap (λ x. printRow l x (digitsOf l row)) (sym ent) ∙ q .1)),
     (λ h. let q = writes e ws row (h .0) (h .1) in
-          (q .0, answers (firstOf (rowFaults l row)) _ _ (q .3) (ap (λ x. reading x (digitsOf l row)) (q .1) ∙ ap (reading e) (q .2)))),
+        (q .0, answers (firstOf (rowFaults l row)) _ _ (q .3) (ap (λ x. reading x (digitsOf l row)) (q .1) ∙ ap (reading e) (q .2)))),
   )
 
 pub rows-keep-the-law : Rows-keep-the-law
@@ -153,9 +157,9 @@ ok-same r x y p q = cc
 pub equal-rows : Equal-rows
 equal-rows l law row other r s len len′ p q = (
   (λ e. let is : r ≡ s = ok-same (readRow l other) r s (ap (readRow l) (sym e) ∙ p) q in
-        (ap (λ x. x .entry .mark) is, ap (λ x. x .entry .values) is, ap (λ x. x .digits) is)),
+      (ap (λ x. x .entry .mark) is, ap (λ x. x .entry .values) is, ap (λ x. x .digits) is)),
   (λ h. let a = row-law l law row (r .entry) (r .digits) .0 (len, p) in
-        let b = row-law l law other (s .entry) (s .digits) .0 (len′, q) in
-        let same : r .entry ≡ s .entry = entry-is (r .entry) (s .entry) (h .0) (h .1) in
-        ok-same (printRow l (s .entry) (s .digits)) row other (ap (printRow l (s .entry)) (sym (h .2)) ∙ ap (λ x. printRow l x (r .digits)) (sym same) ∙ a .1) (b .1)),
+      let b = row-law l law other (s .entry) (s .digits) .0 (len′, q) in
+      let same : r .entry ≡ s .entry = entry-is (r .entry) (s .entry) (h .0) (h .1) in
+      ok-same (printRow l (s .entry) (s .digits)) row other (ap (printRow l (s .entry)) (sym (h .2)) ∙ ap (λ x. printRow l x (r .digits)) (sym same) ∙ a .1) (b .1)),
 )

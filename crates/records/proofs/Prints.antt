@@ -104,9 +104,10 @@ module _ (pool : List ℕ) (r : s.Working → ℕ) (fields : List Field) (values
       ready : (o : Origin) → origin (fieldOf (getD fields i d)) ≡ o → Ready pool values next o
       ready ofBook is = tt
       ready (entered q) is =
-          let one = asked-next (entered q) is in
-          (asking-room fields values pool i next (p .asking) q one,
-           and-parts (q (valueOf pool (getD values next (Number 0)))) (inside pool (getD values next (Number 0))) (asking-suits fields values pool i next (p .asking) q one (Number 0) (p .suited)) .1)
+          let one = asked-next (entered q) is in (
+            asking-room fields values pool i next (p .asking) q one,
+            and-parts (q (valueOf pool (getD values next (Number 0)))) (inside pool (getD values next (Number 0))) (asking-suits fields values pool i next (p .asking) q one (Number 0) (p .suited)) .1,
+          )
       ready (reckoned a k) is = tt
 
       asks-on : (o : Origin) → origin (fieldOf (getD fields i d)) ≡ o → Asking fields values pool (i + 1) (placeAfter next o)

@@ -6,4 +6,5 @@ pub mod Entries
 pub mod Worked
 pub mod Asked
 pub mod Printing
+pub mod Taking
 pub mod Faults

@@ -75,8 +75,10 @@ fn claim_holds(fields: &[Field], claim: Claim, row: &[u8; 750]) -> bool
         Claim::IsCode(place, code) => number_at(fields, place, row) == code,
         Claim::AtMost(low, high) => number_at(fields, low, row) <= number_at(fields, high, row),
         Claim::Short(place, most) => length_at(fields, place, row) <= most,
-        Claim::ShortBoth(one, other, most) =>
-            length_at(fields, one, row) + length_at(fields, other, row) <= most,
+        Claim::ShortBoth(one, other, most) => {
+            let both = length_at(fields, one, row) + length_at(fields, other, row);
+            both <= most
+        }
     }
 }
 
@@ -86,9 +88,8 @@ fn premise_start(fields: &[Field], premise: Premise) -> usize
 {
     match premise {
         Premise::Always => 0,
-        Premise::IfCode(place, _) => field_at(fields, place).start,
-        Premise::IfEither(place, _, _) => field_at(fields, place).start,
-        Premise::IfFilled(place) => field_at(fields, place).start,
+        Premise::IfCode(place, _) | Premise::IfEither(place, _, _) | Premise::IfFilled(place) =>
+            field_at(fields, place).start,
     }
 }
 
@@ -97,12 +98,14 @@ fn claim_start(fields: &[Field], claim: Claim) -> usize
     ensures { λ r. ⌜ r ≡ claimStart (map fieldOf (now (fields .entry))) claim ⌝ }
 {
     match claim {
-        Claim::IsFilled(place) => field_at(fields, place).start,
-        Claim::NotFilled(place) => field_at(fields, place).start,
-        Claim::IsCode(place, _) => field_at(fields, place).start,
-        Claim::AtMost(one, other) => field_at(fields, one).start.max(field_at(fields, other).start),
-        Claim::Short(place, _) => field_at(fields, place).start,
-        Claim::ShortBoth(one, other, _) => field_at(fields, one).start.max(field_at(fields, other).start),
+        Claim::IsFilled(place)
+        | Claim::NotFilled(place)
+        | Claim::IsCode(place, _)
+        | Claim::Short(place, _) => field_at(fields, place).start,
+        Claim::AtMost(one, other) | Claim::ShortBoth(one, other, _) => {
+            let start = field_at(fields, one).start;
+            start.max(field_at(fields, other).start)
+        }
     }
 }
 

@@ -2,16 +2,17 @@
 ghost use mathlib.Core.Path.{_≡_};
 ghost use Prim.Native.Nat.{ℕ, _+_, _-_};
 ghost use Rattle.fields.specs.Field.{filled, family};
-ghost use Rattle.fields.specs.InRow.{LiesAt};
+ghost use Rattle.fields.specs.InRow.{part, LiesAt, FrontOf};
 ghost use Rattle.fields.specs.Meaning.{fieldOf, sortOf, cellOf};
 ghost use Rattle.records.specs.Conditions.{numberIn, textIn};
 ghost use Rattle.records.specs.Held.{cellIn, BeginsAt};
 use fields::field::Content;
 use fields::field::Field;
 
-fn content_in<'a>(field: &Field, row: &'a [u8; 750]) -> Content<'a>
+pub(crate) fn content_in<'a>(field: &Field, row: &'a [u8; 750]) -> Content<'a>
     ensures cell { λ r. ⌜ cellOf r ≡ cellIn (fieldOf (now (field .entry))) (now (row .entry)) ⌝ }
     ensures place { λ r. ⌜ LiesAt (row .entry .ptr .0, now (field .entry) .start - 1 + row .entry .ptr .1) r ⌝ }
+    ensures front { λ r. ⌜ FrontOf (part (fieldOf (now (field .entry))) (now (row .entry))) r ⌝ }
 {
     match field.read(0, row) {
         Ok(content) => content,
@@ -44,5 +45,5 @@ pub fn text_in<'a>(field: &Field, row: &'a [u8; 750]) -> &'a [u8]
 pub fn is_filled_in(field: &Field, row: &[u8; 750]) -> bool
     ensures { λ r. ⌜ r ≡ filled (family (sortOf (now (field .entry) .sort))) (cellIn (fieldOf (now (field .entry))) (now (row .entry))) ⌝ }
 {
-    field.is_filled(content_in(field, row))
+    field.sort.is_filled(content_in(field, row))
 }

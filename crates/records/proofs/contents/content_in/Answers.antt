@@ -7,4 +7,4 @@ use Rattle.records.proofs.contents.content_in.Needs as need
 pub returns-in-Err : need.returns-in-Err
 returns-in-Err c =
     let f = fieldOf (c .args .field .now) in
-    record { cell = refused-none f 0 (readField f (part f (c .args .row .now))) _ (c .in-Err .ensures tt .refused); place = tt }
+    record { cell = refused-none f 0 (readField f (part f (c .args .row .now))) _ (c .in-Err .ensures tt .refused); place = tt; front = tt }

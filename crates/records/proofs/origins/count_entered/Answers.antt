@@ -13,12 +13,12 @@ loop-field-again c =
     let i = c .loop-field .field-index in
     let inv = c .loop-field .inv in
     elim (c .match-origin-of .came) [
-      in-Entered w ↦
-        let one = ap length (ask-one xs i _ (c .loop-field-test .taken) (w .in-Entered .field-0) (w .in-Entered .ensures tt)) in
-        (omega (arith, w .count-is, inv .0), omega (arith, w .count-is, inv .1, one))
-    | in-rest w ↦
-        let none = ap length (ask-none xs i _ (c .loop-field-test .taken) (c .origin-of .result) (w .in-rest .not-Entered) (c .origin-of .ensures)) in
-        (omega (arith, w .count-is, inv .0), omega (arith, w .count-is, inv .1, none))
+      | in-Entered w ↦
+          let one = ap length (ask-one xs i _ (c .loop-field-test .taken) (w .in-Entered .field-0) (w .in-Entered .ensures tt)) in
+          (omega (arith, w .count-is, inv .0), omega (arith, w .count-is, inv .1, one))
+      | in-rest w ↦
+          let none = ap length (ask-none xs i _ (c .loop-field-test .taken) (c .origin-of .result) (w .in-rest .not-Entered) (c .origin-of .ensures)) in
+          (omega (arith, w .count-is, inv .0), omega (arith, w .count-is, inv .1, none))
     ]
 
 pub returns : need.returns

@@ -25,10 +25,10 @@ loop-field-again c =
     let pool = c .args .pool .now in
     let i = c .loop-field .field-index in
     elim (c .match-origin-of .came) [
-      in-Entered·in-Continue-check-value w ↦
-        rw (w .next-is) (asking-next xs vs pool i (c .loop-field .next) (c .loop-field .inv) (asksFor (w .in-Entered .asked)) (ask-one xs i _ (c .loop-field-test .taken) (w .in-Entered .asked) (w .in-Entered .ensures tt)) _ (unless-true _ _ (sym (w .in-Continue-check-value .ensures tt))))
-    | in-rest w ↦
-        rw (w .next-is) (asking-skip xs vs pool i (c .loop-field .next) (c .loop-field .inv) (ask-none xs i _ (c .loop-field-test .taken) (c .origin-of .result) (w .in-rest .not-Entered) (c .origin-of .ensures)))
+      | in-Entered·in-Continue-check-value w ↦
+          rw (w .next-is) (asking-next xs vs pool i (c .loop-field .next) (c .loop-field .inv) (asksFor (w .in-Entered .asked)) (ask-one xs i _ (c .loop-field-test .taken) (w .in-Entered .asked) (w .in-Entered .ensures tt)) _ (unless-true _ _ (sym (w .in-Continue-check-value .ensures tt))))
+      | in-rest w ↦
+          rw (w .next-is) (asking-skip xs vs pool i (c .loop-field .next) (c .loop-field .inv) (ask-none xs i _ (c .loop-field-test .taken) (c .origin-of .result) (w .in-rest .not-Entered) (c .origin-of .ensures)))
     ]
 
 pub returns : need.returns
