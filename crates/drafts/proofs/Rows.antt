@@ -45,7 +45,7 @@ print-faults (f ∷ fs) (c ∷ cs) (d ∷ ds) a w =
     ∙ ap (λ o. firstOf (o ∷ (faultIn (writeCells fs cs) ∷ []))) (head (origin f) f c d (a .0) (w .0))
     ∙ ap (λ o. firstOf (unworked (origin f) (faultIn (atField f (writeField f d))) ∷ (o ∷ []))) (print-faults fs cs ds (a .1) (w .1))
 
-last : {F : Type 0} (a b c : Option F) → a ≡ None → b ≡ None → firstOf (a ∷ (b ∷ (c ∷ []))) ≡ c
+pub last : {F : Type 0} (a b c : Option F) → a ≡ None → b ≡ None → firstOf (a ∷ (b ∷ (c ∷ []))) ≡ c
 last a b None p q = subst (λ x. firstOf (x ∷ (b ∷ (None ∷ []))) ≡ None) (sym p) (subst (λ x. firstOf (x ∷ (None ∷ [])) ≡ None) (sym q) refl)
 last a b (Some f) p q = subst (λ x. firstOf (x ∷ (b ∷ (Some f ∷ []))) ≡ Some f) (sym p) (subst (λ x. firstOf (x ∷ (Some f ∷ [])) ≡ Some f) (sym q) refl)
 

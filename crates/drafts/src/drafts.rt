@@ -11,19 +11,24 @@ ghost use Rattle.files.specs.Standing.{Stands};
 ghost use Rattle.drafts.specs.declared.states.State.the-variants.{Fresh};
 ghost use Rattle.drafts.specs.Draft.{Moment, stateAfter};
 ghost use Rattle.drafts.specs.Faults.{ofDraft};
-ghost use Rattle.drafts.specs.Standing.{Shows, admission};
+ghost use Rattle.drafts.specs.Standing.{Shows, admission, contents, Ready, Fit};
 ghost use Rattle.drafts.specs.States.{stateOf, callOf};
 use crate::faults::DraftFault;
+use crate::faults::DraftFromEntry;
 use crate::faults::DraftFromFile;
 use crate::faults::DraftFromRow;
 use crate::faults::DraftFromValue;
 use crate::states::Call;
 use crate::states::State;
+use fields::cents::Cents;
 use files::progress::Progress;
 use layouts::book::Book;
 use layouts::kinds::Kind;
 use records::Entry;
+use records::Worked;
 use records::find_marked;
+use records::judge;
+use records::print;
 use records::check_values;
 use rows::Carrier;
 
@@ -42,6 +47,21 @@ struct Admitted {
     kind: Kind,
     state: State,
 }
+
+// A row that may be pushed, and the sum with it.
+#[derive(Clone, Copy)]
+struct Prepared {
+    row: [u8; 750],
+    sum: Cents,
+}
+
+// What stands in the worked fields while the entry's own fields are looked at.
+const UNWORKED: Worked = Worked {
+    row_number: 0,
+    owner_number: 0,
+    total: 0,
+    count: 0,
+};
 
 impl<B: Book, C: Carrier> Draft<B, C> {
     // A fresh draft. Its rows are numbered from 1 whatever the carrier holds.
@@ -74,5 +94,21 @@ impl<B: Book, C: Carrier> Draft<B, C> {
             kind,
             state,
         })
+    }
+
+    // The row of an admitted entry: its fields, its conditions, its owner and the sum.
+    // The total is known only once the entry's own amount was read from its row, so the row is printed again with it.
+    fn prepare(&self, admitted: Admitted, entry: Entry) -> Result<Prepared, DraftFault>
+        ensures refused { λ r. ⌜ ((v : Moment) → Shows (B·Meant .meaning) (C·Source .rows) (C·Carrier .places) (now (self .entry)) v → Ready (B·Meant .meaning) v (handedOf (entry .entry)) (admitted .«row_number») (admitted .kind .mark) → refusalIn ofDraft r ≡ firstOf (contents (B·Meant .meaning) v (handedOf (entry .entry)))) ⌝ }
+        ensures fit { λ r. ⌜ ((v : Moment) → Shows (B·Meant .meaning) (C·Source .rows) (C·Carrier .places) (now (self .entry)) v → Ready (B·Meant .meaning) v (handedOf (entry .entry)) (admitted .«row_number») (admitted .kind .mark) → made r (λ p. Fit (B·Meant .meaning) v (handedOf (entry .entry)) (p .row) (p .sum .value))) ⌝ }
+    {
+        let mut row = [b' '; 750];
+        print(&self.book, entry, UNWORKED, admitted.row_number, &mut row)?;
+        judge(&self.book, admitted.row_number, &row)?;
+        self.progress.tie(&self.book, admitted.row_number, admitted.kind, &row)?;
+        let sum = self.progress.sum_with(&self.book, admitted.row_number, admitted.kind, &row)?;
+        let worked = self.progress.worked(&self.book, admitted.row_number, admitted.kind, sum);
+        print(&self.book, entry, worked, admitted.row_number, &mut row)?;
+        Ok(Prepared { row, sum })
     }
 }
