@@ -11,9 +11,11 @@ ghost use Rattle.files.specs.Standing.{Stands};
 ghost use Rattle.drafts.specs.declared.states.State.the-variants.{Fresh};
 ghost use Rattle.drafts.specs.Draft.{Moment, stateAfter};
 ghost use Rattle.drafts.specs.Faults.{ofDraft};
-ghost use Rattle.drafts.specs.Standing.{Shows, admission, contents, Ready, Fit};
+ghost use Rattle.drafts.specs.Standing.{Shows, Kept, admission, contents, Ready, Fit};
+ghost use Rattle.drafts.specs.Drafts.{Called};
 ghost use Rattle.drafts.specs.States.{stateOf, callOf};
 use crate::faults::DraftFault;
+use crate::faults::DraftFromCarrier;
 use crate::faults::DraftFromEntry;
 use crate::faults::DraftFromFile;
 use crate::faults::DraftFromRow;
@@ -110,5 +112,18 @@ impl<B: Book, C: Carrier> Draft<B, C> {
         let worked = self.progress.worked(&self.book, admitted.row_number, admitted.kind, sum);
         print(&self.book, entry, worked, admitted.row_number, &mut row)?;
         Ok(Prepared { row, sum })
+    }
+
+    // One call: the entry is taken, or refused and nothing changes.
+    fn take_entry(&mut self, call: Call, entry: Entry) -> Result<(), DraftFault>
+        ensures told { λ r. ⌜ Called (B·Meant .meaning) (refusalIn ofDraft) (Shows (B·Meant .meaning) (C·Source .rows) (C·Carrier .places)) (now (self .entry)) (callOf call) (handedOf (entry .entry)) r (now (self .exit)) ⌝ }
+        ensures kept { λ r. ⌜ Kept (now (self .entry)) (now (self .exit)) r ⌝ }
+    {
+        let admitted = self.admit(call, entry)?;
+        let prepared = self.prepare(admitted, entry)?;
+        self.carrier.push(&prepared.row)?;
+        self.progress.advance(&self.book, admitted.row_number, admitted.kind, &prepared.row, prepared.sum);
+        self.state = admitted.state;
+        Ok(())
     }
 }
