@@ -7,6 +7,7 @@ ghost use Rattle.std.specs.Vec.{made};
 ghost use Rattle.fields.specs.Faults.{refusalIn, firstOf};
 ghost use Rattle.layouts.specs.Layout.{Layout};
 ghost use Rattle.records.specs.Entries.{handedOf};
+ghost use Rattle.files.specs.Checks.{starts, adds, closes};
 ghost use Rattle.files.specs.Standing.{Stands};
 ghost use Rattle.drafts.specs.declared.states.State.the-variants.{Fresh};
 ghost use Rattle.drafts.specs.Draft.{Moment, stateAfter};
@@ -125,5 +126,49 @@ impl<B: Book, C: Carrier> Draft<B, C> {
         self.progress.advance(&self.book, admitted.row_number, admitted.kind, &prepared.row, prepared.sum);
         self.state = admitted.state;
         Ok(())
+    }
+
+    // Takes the header. The draft must be fresh.
+    pub fn start(&mut self, entry: Entry) -> Result<(), DraftFault>
+        ensures told { λ r. ⌜ Called (B·Meant .meaning) (refusalIn ofDraft) (Shows (B·Meant .meaning) (C·Source .rows) (C·Carrier .places)) (now (self .entry)) starts (handedOf (entry .entry)) r (now (self .exit)) ⌝ }
+        ensures kept { λ r. ⌜ Kept (now (self .entry)) (now (self .exit)) r ⌝ }
+    {
+        self.take_entry(Call::Start, entry)
+    }
+
+    // Takes an entry of any other kind than header and trailer. The draft must be open.
+    pub fn add(&mut self, entry: Entry) -> Result<(), DraftFault>
+        ensures told { λ r. ⌜ Called (B·Meant .meaning) (refusalIn ofDraft) (Shows (B·Meant .meaning) (C·Source .rows) (C·Carrier .places)) (now (self .entry)) adds (handedOf (entry .entry)) r (now (self .exit)) ⌝ }
+        ensures kept { λ r. ⌜ Kept (now (self .entry)) (now (self .exit)) r ⌝ }
+    {
+        self.take_entry(Call::Add, entry)
+    }
+
+    // Takes the trailer. The draft must be open, and is then closed.
+    pub fn close(&mut self, entry: Entry) -> Result<(), DraftFault>
+        ensures told { λ r. ⌜ Called (B·Meant .meaning) (refusalIn ofDraft) (Shows (B·Meant .meaning) (C·Source .rows) (C·Carrier .places)) (now (self .entry)) closes (handedOf (entry .entry)) r (now (self .exit)) ⌝ }
+        ensures kept { λ r. ⌜ Kept (now (self .entry)) (now (self .exit)) r ⌝ }
+    {
+        self.take_entry(Call::Close, entry)
+    }
+
+    // What the draft writes on.
+    pub fn carrier(&self) -> &C
+        ensures { λ r. ⌜ now r ≡ now (self .entry) .carrier ⌝ }
+    {
+        &self.carrier
+    }
+
+    // The book and the carrier again.
+    pub fn into_parts(self) -> (B, C)
+        ensures { λ r. ⌜ r .0 ≡ self .book ⌝ ∗ ⌜ r .1 ≡ self .carrier ⌝ }
+    {
+        let Draft {
+            book,
+            carrier,
+            state: _,
+            progress: _,
+        } = self;
+        (book, carrier)
     }
 }
