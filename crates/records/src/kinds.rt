@@ -8,7 +8,8 @@ use crate::faults::RowFault;
 use layouts::book::Book;
 use layouts::kinds::Kind;
 
-pub(crate) fn find_marked<B: Book>(book: &B, row_number: usize, mark: u8) -> Result<Kind, RowFault>
+// The kind with a mark, for a row with this number.
+pub fn find_marked<B: Book>(book: &B, row_number: usize, mark: u8) -> Result<Kind, RowFault>
     ensures refused { λ r. ⌜ refusalIn ofRow r ≡ inRow «row_number» (mark10 (B·Meant .meaning) mark) ⌝ }
     ensures found { λ r. ⌜ made r (λ kind. kind .mark ≡ mark) ⌝ }
 {
