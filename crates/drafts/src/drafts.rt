@@ -31,8 +31,8 @@ use records::Entry;
 use records::Worked;
 use records::find_marked;
 use records::judge;
-use records::print;
-use records::check_values;
+use entries::print;
+use entries::check_values;
 use rows::Carrier;
 
 #[derive(Drop)]

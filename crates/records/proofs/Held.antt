@@ -1,6 +1,6 @@
 -- What stands in a row, field by field, and what is read in one go.
 use mathlib.Core.Path.{_≡_, refl, sym, ap, subst, _∙_}
-use mathlib.Core.List.{List, [], _∷_, map}
+use mathlib.Core.List.{List, [], _∷_}
 use Prim.Native.Nat.{ℕ, zero, suc, _+_, _-_, _<_, _≤_}
 use native.Mathlib.Nat.{le-of-suc-le-suc, not-suc-le-zero}
 use native.Mathlib.Omega.{arith}
@@ -17,10 +17,9 @@ use Rattle.fields.specs.Field.{Field, family, num, txt, Cell, filled, readField
 use Rattle.fields.specs.InRow.{atField, part}
 use Rattle.layouts.specs.Layout.{fieldAt}
 use Rattle.layouts.specs.Lawful.{Covers}
-use Rattle.records.specs.Cells.{Origin, ofBook, entered, reckoned, origin, origins, readCells, valuesIn, digitsIn}
+use Rattle.records.specs.Cells.{Origin, ofBook, entered, reckoned, origin, origins, readCells, digitsIn}
 use Rattle.records.specs.Conditions.{numberIn, cellAt, filledAt}
 use Rattle.records.specs.Held.{cellIn, cellsIn, fieldsFault, workedNext, digitsHeld}
-use Rattle.records.specs.Taking.{enteredNext, enteredOf}
 use Rattle.records.proofs.Options.{some-none}
 use Rattle.records.proofs.Cells.{Shape, Shaped}
 
@@ -72,14 +71,3 @@ digits-next (reckoned s k) (Some (txt t)) os cs ds h e = absurd h
 pub digits-in : (fs : List Field) (row : List ℕ) → Shaped (origins fs) (cellsIn fs row) → digitsIn (origins fs) (cellsIn fs row) ≡ digitsHeld fs row
 digits-in [] row h = refl
 digits-in (f ∷ fs) row h = digits-next (origin f) (cellIn f row) (origins fs) (cellsIn fs row) (digitsHeld fs row) (h .0) (digits-in fs row (h .1))
-
--- the values of an entry, gathered and looked up
-values-next : (o : Origin) (f : Field) (c : Cell) (os : List Origin) (cs : List Cell) (fs : List Field) (row : List ℕ) → Shape o c → c ≡ cellIn f row → map Some (valuesIn os cs) ≡ map (λ f. cellIn f row) fs → map Some (valuesIn (o ∷ os) (c ∷ cs)) ≡ map (λ f. cellIn f row) (enteredNext o f fs)
-values-next ofBook f c os cs fs row h is e = e
-values-next (entered p) f None os cs fs row h is e = absurd h
-values-next (entered p) f (Some v) os cs fs row h is e = ap (λ x. x ∷ map Some (valuesIn os cs)) is ∙ ap (λ l. cellIn f row ∷ l) e
-values-next (reckoned s k) f c os cs fs row h is e = e
-
-pub values-in : (fs : List Field) (row : List ℕ) → Shaped (origins fs) (cellsIn fs row) → map Some (valuesIn (origins fs) (cellsIn fs row)) ≡ map (λ f. cellIn f row) (enteredOf fs)
-values-in [] row h = refl
-values-in (f ∷ fs) row h = values-next (origin f) f (cellIn f row) (origins fs) (cellsIn fs row) (enteredOf fs) row (h .0) refl (values-in fs row (h .1))

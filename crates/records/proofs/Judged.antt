@@ -1,6 +1,6 @@
 -- A row of a known kind, judged field by field.
 use mathlib.Core.Path.{_≡_, refl, sym, ap, subst, _∙_}
-use mathlib.Core.List.{List, [], _∷_, map}
+use mathlib.Core.List.{List, [], _∷_}
 use Prim.Native.Nat.{ℕ, _<_}
 use lib.Dec.{lit≤}
 use lib.ListN.{length, drop}
@@ -18,10 +18,9 @@ use Rattle.records.specs.Cells.{origins, cells, valuesIn, digitsIn, writeCells
 use Rattle.records.specs.Conditions.{cellAt, broken, Named}
 use Rattle.records.specs.Row.{fieldsOf, originsOf, contents, mark10, conditions15, markOf, cellsOf, entryOf, digitsOf, rowFaults}
 use Rattle.records.specs.Held.{cellIn, cellsIn, fieldsFault, digitsHeld}
-use Rattle.records.specs.Taking.{enteredOf}
 use Rattle.records.proofs.Options.{some-none, no-fault}
 use Rattle.records.proofs.Cells.{Shaped, Alike, cells-write, shaped, dealt-again, alike}
-use Rattle.records.proofs.Held.{cell-at, read-held, digits-in, values-in}
+use Rattle.records.proofs.Held.{cell-at, read-held, digits-in}
 use Rattle.records.proofs.Named.{alike-at, broken-same}
 use Rattle.records.proofs.Law.{lawful-kind, whole}
 
@@ -41,7 +40,7 @@ module _ (l : Layout) (law : Lawful l) (row : List ℕ) (len : length row ≡ 75
   pub cells-good : cellsOf l row ≡ Ok (cellsIn (fieldsOf l (markOf row)) row)
   cells-good = cells-held l law row known ∙ ap (λ o. answer o (cellsIn (fieldsOf l (markOf row)) row)) good
 
-  held-shaped : Shaped (originsOf l (markOf row)) (cellsIn (fieldsOf l (markOf row)) row)
+  pub held-shaped : Shaped (originsOf l (markOf row)) (cellsIn (fieldsOf l (markOf row)) row)
   held-shaped =
       let fs = fieldsOf l (markOf row) in
       shaped fs (cellsIn fs row) row (cells-write fs row (cellsIn fs row) (len ∙ sym (whole l law (markOf row) known)) cells-good)
@@ -71,10 +70,6 @@ module _ (l : Layout) (law : Lawful l) (row : List ℕ) (len : length row ≡ 75
   held-worked =
       let fs = fieldsOf l (markOf row) in
       ap (λ x. digitsIn (originsOf l (markOf row)) (okOr [] x)) cells-good ∙ digits-in fs row held-shaped
-
-  -- the entry's values are what the fields that it has values for hold
-  pub held-values : map Some (entryOf l row .values) ≡ map (λ f. cellIn f row) (enteredOf (fieldsOf l (markOf row)))
-  held-values = ap (λ x. map Some (valuesIn (originsOf l (markOf row)) (okOr [] x))) cells-good ∙ values-in (fieldsOf l (markOf row)) row held-shaped
 
 -- what the three checks find, one after the other
 second : (n : ℕ) (x : Refusal) (a b c : Option Fault) → a ≡ None → Some x ≡ inRow n b → Some x ≡ inRow n (firstOf (a ∷ (b ∷ (c ∷ []))))

@@ -4,7 +4,4 @@ pub mod Row
 pub mod Held
 pub mod Entries
 pub mod Worked
-pub mod Asked
-pub mod Printing
-pub mod Taking
 pub mod Faults

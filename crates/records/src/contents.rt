@@ -9,7 +9,8 @@ ghost use Rattle.records.specs.Held.{cellIn, BeginsAt};
 use fields::field::Content;
 use fields::field::Field;
 
-pub(crate) fn content_in<'a>(field: &Field, row: &'a [u8; 750]) -> Content<'a>
+// What a field holds; a field that is refused holds nothing. A text is that part of the row itself.
+pub fn content_in<'a>(field: &Field, row: &'a [u8; 750]) -> Content<'a>
     ensures cell { λ r. ⌜ cellOf r ≡ cellIn (fieldOf (now (field .entry))) (now (row .entry)) ⌝ }
     ensures place { λ r. ⌜ LiesAt (row .entry .ptr .0, now (field .entry) .start - 1 + row .entry .ptr .1) r ⌝ }
     ensures front { λ r. ⌜ FrontOf (part (fieldOf (now (field .entry))) (now (row .entry))) r ⌝ }

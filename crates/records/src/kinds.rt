@@ -8,6 +8,7 @@ use crate::faults::RowFault;
 use layouts::book::Book;
 use layouts::kinds::Kind;
 
+// The kind with a mark, for a row with this number.
 pub fn find_marked<B: Book>(book: &B, row_number: usize, mark: u8) -> Result<Kind, RowFault>
     ensures refused { λ r. ⌜ refusalIn ofRow r ≡ inRow «row_number» (mark10 (B·Meant .meaning) mark) ⌝ }
     ensures found { λ r. ⌜ made r (λ kind. kind .mark ≡ mark) ⌝ }

@@ -1,4 +1,4 @@
-// One row of one kind: an entry, its 750 bytes, and the law between the two.
+// One row of one kind: what it is read as, whether it is good, and the law between an entry and its 750 bytes.
 mod conditions;
 mod contents;
 mod entries;
@@ -6,11 +6,8 @@ mod faults;
 mod judging;
 mod kinds;
 mod laws;
-mod origins;
-mod printing;
-mod taking;
-mod values;
 
+pub use contents::content_in;
 pub use contents::is_filled_in;
 pub use contents::number_in;
 pub use contents::text_in;
@@ -31,6 +28,12 @@ pub use faults::RowFault;
 pub use faults::RowFaultDebug;
 pub use faults::RowFaultPartialEq;
 pub use faults::RowFromField;
+pub use faults::TakeFault;
+pub use faults::TakeFaultDebug;
+pub use faults::TakeFaultPartialEq;
+pub use faults::TakeFromCarrier;
+pub use faults::TakeFromRow;
+pub use faults::TakeFromValue;
 pub use faults::ValueFault;
 pub use faults::ValueFaultDebug;
 pub use faults::ValueFaultPartialEq;
@@ -38,5 +41,3 @@ pub use judging::judge;
 pub use kinds::find_kind;
 pub use kinds::find_marked;
 pub use laws::row_law;
-pub use printing::print;
-pub use values::check_values;
