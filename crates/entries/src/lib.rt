@@ -5,4 +5,6 @@ mod taking;
 mod values;
 
 pub use printing::print;
+pub use taking::Taken;
+pub use taking::take;
 pub use values::check_values;
