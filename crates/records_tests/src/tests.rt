@@ -1,12 +1,15 @@
 // Each case of the tables.
 use crate::cases::Change;
-use crate::cases::JUDGED;
+use crate::cases::JUDGED_OUTGOING;
+use crate::cases::JUDGED_RECURRING;
+use crate::cases::JUDGED_RETURNED;
 use crate::cases::Judged;
-use crate::cases::PRINTED;
+use crate::cases::PRINTED_OUTGOING;
+use crate::cases::PRINTED_RECURRING;
+use crate::cases::PRINTED_RETURNED;
 use crate::cases::Printed;
 use crate::cases::REFUSED;
 use crate::cases::Refused;
-use books::letters::Letter;
 use books::outgoing::OutgoingBook;
 use books::outgoing::OutgoingMeant;
 use books::outgoing::OutgoingReceipts;
@@ -18,16 +21,11 @@ use books::returned::ReturnedMeant;
 use books::returned::ReturnedReceipts;
 use entries::print;
 use layouts::book::Book;
-use layouts::kinds::Kind;
 use records::Entry;
-use records::EntryFault;
-use records::RowFault;
 use records::Worked;
 use records::judge;
 use rows::Layer;
 use rows::Refusal;
-use rows::RefusalDebug;
-use rows::RefusalPartialEq;
 use std::test::*;
 
 const ROW: usize = 4;
@@ -39,40 +37,30 @@ const WORKED: Worked = Worked {
     count: 123_456,
 };
 
-fn layer_of(number: u8) -> Layer {
-    match number {
-        10 | 15 => Layer::Row,
-        31 => Layer::Draft,
-        _ => Layer::Field,
-    }
+fn check_refusal(refusal: Refusal, number: u8, first: usize, second: usize) -> Result<(), Fail> {
+    check_eq(refusal.number, number)?;
+    check_eq(refusal.first, first)?;
+    check_eq(refusal.second, second)?;
+    check(
+        match refusal.layer {
+            Layer::Row => number == 10 || number == 15,
+            Layer::Field => 11 <= number && number <= 14,
+            Layer::Draft => number == 31,
+            _ => false,
+        },
+    )
 }
 
-fn judged(letter: Letter, row: &[u8; 750]) -> Result<Kind, RowFault> {
-    match letter {
-        Letter::P => judge(&OutgoingReceipts, ROW, row),
-        Letter::Q => judge(&ReturnedReceipts, ROW, row),
-        Letter::S => judge(&RecurringCharges, ROW, row),
-    }
-}
-
-fn printed(letter: Letter, entry: Entry, row: &mut [u8; 750]) -> Result<(), EntryFault> {
-    match letter {
-        Letter::P => print(&OutgoingReceipts, entry, WORKED, ROW, row),
-        Letter::Q => print(&ReturnedReceipts, entry, WORKED, ROW, row),
-        Letter::S => print(&RecurringCharges, entry, WORKED, ROW, row),
-    }
-}
-
-fn run_printed(case: &Printed) -> Result<(), Fail> {
+fn run_printed<B: Book>(book: &B, case: &Printed) -> Result<(), Fail> {
     let mut row = [b'#'; 750];
     let entry = Entry {
         mark: case.mark,
         values: case.values,
         pool: case.pool,
     };
-    check(printed(case.letter, entry, &mut row).is_ok())?;
+    check(print(book, entry, WORKED, ROW, &mut row).is_ok())?;
     check(&row == case.row)?;
-    match judged(case.letter, &row) {
+    match judge(book, ROW, &row) {
         Ok(kind) => check_eq(kind.mark, case.mark),
         Err(_) => Err(Fail::new("a printed row is refused")),
     }
@@ -86,28 +74,30 @@ fn change(row: &mut [u8; 750], change: &Change) -> Result<(), Fail> {
     Ok(())
 }
 
-fn run_judged(case: &Judged) -> Result<(), Fail> {
+fn run_judged<B: Book>(book: &B, printed: &[Printed], case: &Judged) -> Result<(), Fail> {
     let Judged(base, changes, number, position) = *case;
-    check(base < PRINTED.len())?;
-    let mut row = *PRINTED[base].row;
+    check(base < printed.len())?;
+    let mut row = *printed[base].row;
     for each in changes {
         change(&mut row, each)?;
     }
-    match judged(PRINTED[base].letter, &row) {
+    match judge(book, ROW, &row) {
         Ok(kind) => {
             check_eq(number, 0)?;
             check_eq(kind.mark, row[0])
         }
-        Err(fault) => check_eq(
-            fault.refusal(),
-            Refusal {
-                number,
-                layer: layer_of(number),
-                first: ROW,
-                second: position,
-            },
-        ),
+        Err(fault) => check_refusal(fault.refusal(), number, ROW, position),
     }
+}
+
+fn run_book<B: Book>(book: &B, printed: &[Printed], judged: &[Judged]) -> Result<(), Fail> {
+    for case in printed {
+        run_printed(book, case)?;
+    }
+    for case in judged {
+        run_judged(book, printed, case)?;
+    }
+    Ok(())
 }
 
 fn run_refused(case: &Refused) -> Result<(), Fail> {
@@ -125,31 +115,22 @@ fn run_refused(case: &Refused) -> Result<(), Fail> {
         return Err(Fail::new("printed"));
     };
     check(row == [b'#'; 750])?;
-    check_eq(
-        fault.refusal(),
-        Refusal {
-            number: case.number,
-            layer: layer_of(case.number),
-            first: case.first,
-            second: case.second,
-        },
-    )
+    check_refusal(fault.refusal(), case.number, case.first, case.second)
 }
 
 #[test]
-fn every_kind_is_printed_and_judged_good() -> Result<(), Fail> {
-    for case in &PRINTED {
-        run_printed(case)?;
-    }
-    Ok(())
+fn outgoing_rows() -> Result<(), Fail> {
+    run_book(&OutgoingReceipts, &PRINTED_OUTGOING, &JUDGED_OUTGOING)
 }
 
 #[test]
-fn rows_are_judged() -> Result<(), Fail> {
-    for case in &JUDGED {
-        run_judged(case)?;
-    }
-    Ok(())
+fn returned_rows() -> Result<(), Fail> {
+    run_book(&ReturnedReceipts, &PRINTED_RETURNED, &JUDGED_RETURNED)
+}
+
+#[test]
+fn recurring_rows() -> Result<(), Fail> {
+    run_book(&RecurringCharges, &PRINTED_RECURRING, &JUDGED_RECURRING)
 }
 
 #[test]
