@@ -145,6 +145,7 @@ def check(book, rows):
         for field in kind.fields:
             if field.sort is Sort.TOTAL and contents[field.start] != total:
                 raise Refused(24, place, field.start)
+        for field in kind.fields:
             if field.sort is Sort.COUNT and contents[field.start] != count:
                 raise Refused(25, place, field.start)
 
