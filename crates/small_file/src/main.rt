@@ -1,20 +1,16 @@
 // Drafts a small file of outgoing receipts, closes it, checks it from another form of memory, and says what was done.
-mod given;
-
 use books::outgoing::OutgoingBook;
 use books::outgoing::OutgoingMeant;
 use books::outgoing::OutgoingReceipts;
 use drafts::drafts::Draft;
 use drafts::faults::DraftFault;
+use example_entries::charge;
+use example_entries::follower;
+use example_entries::header;
+use example_entries::trailer;
 use files::checking::Accepted;
 use files::checking::check;
 use files::faults::FileFault;
-use given::CHARGE;
-use given::FOLLOWER;
-use given::HEADER;
-use given::POOL;
-use records::Entry;
-use records::Value;
 use rows::CarrierFault;
 use rows::Filling;
 use rows::Hexadecimal;
@@ -30,26 +26,14 @@ use rows::WrittenCarrier;
 use rows::WrittenSource;
 use std::error::AnyError;
 
-fn entry(mark: u8, values: &'static [Value]) -> Entry<'static, 'static> {
-    Entry {
-        mark,
-        values,
-        pool: POOL,
-    }
-}
-
 // A header, a charge with one follower, and a trailer.
 fn draft_file(memory: &mut [u8]) -> Result<(), DraftFault> {
-    let header = entry(b'0', &HEADER);
-    let charge = entry(b'1', &CHARGE);
-    let follower = entry(b'2', &FOLLOWER);
-    let trailer = entry(b'9', &[]);
     let carrier: Written<Lined> = Written::over(memory);
     let mut draft = Draft::new(OutgoingReceipts, carrier);
-    draft.start(header)?;
-    draft.add(charge)?;
-    draft.add(follower)?;
-    draft.close(trailer)
+    draft.start(header())?;
+    draft.add(charge())?;
+    draft.add(follower())?;
+    draft.close(trailer())
 }
 
 // The same rows in the hexadecimal form.

@@ -1,8 +1,9 @@
-// The entries of the example: a charge of 1,250.00 with one follower.
+// Entries of book P for the examples: a header, a charge of 1,250.00, and a follower of it.
+use records::Entry;
 use records::Value;
 
 // The texts, one after the other: a bank, a key, an identifier, a name, a value, and an account of zeros.
-pub const POOL: &[u8] = b"12345678key@breadBREAD-0001FilialCentro00000000000000000000";
+const POOL: &[u8] = b"12345678key@breadBREAD-0001FilialCentro00000000000000000000";
 
 const EMPTY: Value = Value::Text {
     place: 0,
@@ -14,7 +15,7 @@ const IDENTIFIER: Value = Value::Text {
     length: 10,
 };
 
-pub static HEADER: [Value; 10] = [
+static HEADER: [Value; 10] = [
     Value::Text { place: 0, length: 8 },
     Value::Number(2),
     Value::Number(12_345_678_000_195),
@@ -27,7 +28,7 @@ pub static HEADER: [Value; 10] = [
     EMPTY,
 ];
 
-pub static CHARGE: [Value; 23] = [
+static CHARGE: [Value; 23] = [
     Value::Number(2),
     Value::Number(12_345_678_000_195),
     Value::Number(0),
@@ -53,7 +54,7 @@ pub static CHARGE: [Value; 23] = [
     EMPTY,
 ];
 
-pub static FOLLOWER: [Value; 6] = [
+static FOLLOWER: [Value; 6] = [
     IDENTIFIER,
     Value::Text { place: 27, length: 6 },
     Value::Text { place: 33, length: 6 },
@@ -61,3 +62,27 @@ pub static FOLLOWER: [Value; 6] = [
     EMPTY,
     EMPTY,
 ];
+
+fn entry(mark: u8, values: &'static [Value]) -> Entry<'static, 'static> {
+    Entry {
+        mark,
+        values,
+        pool: POOL,
+    }
+}
+
+pub fn header() -> Entry<'static, 'static> {
+    entry(b'0', &HEADER)
+}
+
+pub fn charge() -> Entry<'static, 'static> {
+    entry(b'1', &CHARGE)
+}
+
+pub fn follower() -> Entry<'static, 'static> {
+    entry(b'2', &FOLLOWER)
+}
+
+pub fn trailer() -> Entry<'static, 'static> {
+    entry(b'9', &[])
+}
