@@ -1,4 +1,6 @@
 // Prints the tables of books, one line a field, so that a person can count columns against the bank's manual.
+#![tactic(auto)]
+
 mod lines;
 mod tables;
 mod words;

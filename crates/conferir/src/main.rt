@@ -1,5 +1,7 @@
 // conferir: reads the letter of a book, LF and a file of that book in the hexadecimal form, and prints one line:
 // the file is in order, with its rows and its total, or the number, the row and the position of its first fault.
+#![tactic(auto)]
+
 mod faults;
 
 use faults::ConferirFault;

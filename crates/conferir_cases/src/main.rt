@@ -1,5 +1,7 @@
 // Runs many inputs through conferir and prints its line for each. Standard input has them one after the other:
 // the length of the input in decimal digits, LF, the input, LF.
+#![tactic(auto)]
+
 mod cases;
 
 use anyhow::anyhow;

@@ -1,4 +1,6 @@
 // Examples of drafts: how many followers a charge may have.
+#![tactic(auto)]
+
 #[cfg(test)]
 mod tests {
     use drafts::drafts::Draft;

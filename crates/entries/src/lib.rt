@@ -1,4 +1,6 @@
 // Entries and their rows: the values that a kind asks for, the row that an entry is printed as, and one value of a row.
+#![tactic(auto)]
+
 mod origins;
 mod printing;
 mod taking;

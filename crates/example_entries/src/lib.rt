@@ -1,4 +1,6 @@
 // Entries of book P for the examples: a header, a charge of 1,250.00, a follower of it, and a trailer.
+#![tactic(auto)]
+
 ghost use Rattle.std.specs.Prelude.{◌≡◌};
 ghost use Rattle.records.specs.Entries.{handed_of, meant};
 ghost use Rattle.example_entries.specs.Examples.{header_entry, charge_entry, follower_entry, trailer_entry};

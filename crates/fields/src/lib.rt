@@ -1,4 +1,6 @@
 // One field of a row: what its bytes read as, what its content is written as, and the law between the two.
+#![tactic(auto)]
+
 mod bytes;
 mod digits;
 pub mod field;

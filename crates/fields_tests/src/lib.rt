@@ -1,4 +1,6 @@
 // The edges of a field, by running.
+#![tactic(auto)]
+
 #[cfg(test)]
 mod cases;
 #[cfg(test)]

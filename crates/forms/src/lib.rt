@@ -1,4 +1,6 @@
 // The three forms in which rows of 750 bytes lie in memory: how a row is written as a line of bytes.
+#![tactic(auto)]
+
 mod flat_form;
 mod forms;
 mod hexadecimal_form;

@@ -1,4 +1,6 @@
 // Drafts the largest file of outgoing receipts and one row more, and checks both; the time of the check is told on standard error.
+#![tactic(auto)]
+
 use drafts::drafts::Draft;
 use example_entries::{charge, header, trailer};
 use files::checking::{Accepted, check};

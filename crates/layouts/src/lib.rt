@@ -1,4 +1,6 @@
 // What a book tells of its rows, the laws that it keeps, and the questions by which it is asked.
+#![tactic(auto)]
+
 pub mod book;
 pub mod conditions;
 pub mod kinds;

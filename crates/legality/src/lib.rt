@@ -1,4 +1,6 @@
 // Which lists of entries are legal, which rows they have, and what refuses an entry or a row: definitions and their laws.
+#![tactic(auto)]
+
 ghost use Rattle.legality.specs.File.{FilesKeepTheLaw};
 ghost use Rattle.legality.specs.Progress.{ProgressLaw};
 

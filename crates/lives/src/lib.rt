@@ -1,4 +1,6 @@
 // The states of a draft, its life, and the law of exchange over any drafts whose calls keep to these words.
+#![tactic(auto)]
+
 ghost use Rattle.lives.specs.Exchange.{ExchangeLaw};
 
 pub mod states;

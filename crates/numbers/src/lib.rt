@@ -1,4 +1,6 @@
 // Numbers as rows hold them: digits with zeros before them, dates, amounts of money.
+#![tactic(auto)]
+
 pub mod cents;
 pub mod dates;
 mod digits;

@@ -1,4 +1,6 @@
 // The book of outgoing receipts (letter P), with its laws shown.
+#![tactic(auto)]
+
 mod outgoing;
 mod outgoing_names;
 

@@ -1,4 +1,6 @@
 // One row of one kind: what it is read as, whether it is good, and the law between an entry and its 750 bytes.
+#![tactic(auto)]
+
 mod conditions;
 mod contents;
 mod entries;

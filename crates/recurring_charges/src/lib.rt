@@ -1,4 +1,6 @@
 // The book of outgoing recurring charges (letter S), with its laws shown.
+#![tactic(auto)]
+
 mod recurring;
 mod recurring_names;
 

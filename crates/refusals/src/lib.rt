@@ -1,4 +1,6 @@
 // The table of refusals: every fault that a call can answer, by layers, and what it tells.
+#![tactic(auto)]
+
 mod carrier;
 mod draft;
 mod entry;

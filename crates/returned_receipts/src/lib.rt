@@ -1,4 +1,6 @@
 // The book of returned receipts (letter Q), with its laws shown.
+#![tactic(auto)]
+
 mod returned;
 mod returned_names;
 

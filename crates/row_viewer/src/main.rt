@@ -1,5 +1,7 @@
 // row_viewer LETTER: shows one row of a book, given on standard input in the hexadecimal form.
 // row_viewer LETTER FILE ..: shows the row of each file, each by the book before it.
+#![tactic(auto)]
+
 mod input;
 mod lines;
 mod meanings;

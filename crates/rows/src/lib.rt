@@ -1,5 +1,7 @@
 // Rows of 750 bytes: where they come from (sources) and where they go (carriers),
 // in any form in which they lie in memory.
+#![tactic(auto)]
+
 mod carriers;
 mod copying;
 mod filling;

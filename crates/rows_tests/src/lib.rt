@@ -1,4 +1,6 @@
 // Examples of sources, carriers and forms, with bytes written out by hand.
+#![tactic(auto)]
+
 #[cfg(test)]
 mod tests {
     use forms::{Flat, Hexadecimal, Lined};

@@ -1,4 +1,6 @@
 // Drafts a small file of outgoing receipts, closes it, checks it from another form of memory, and says what was done.
+#![tactic(auto)]
+
 use drafts::drafts::Draft;
 use example_entries::{charge, follower, header, trailer};
 use files::checking::{Accepted, check};

@@ -1,4 +1,6 @@
 // What is kept of the entries before, for the reader and a draft alike.
+#![tactic(auto)]
+
 mod held;
 pub mod owner;
 pub mod progress;

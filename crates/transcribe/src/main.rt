@@ -1,4 +1,6 @@
 // transcribe FROM TO: reads rows on standard input in one form and writes them on standard output in another.
+#![tactic(auto)]
+
 mod faults;
 mod names;
 mod transcription;

@@ -6,4 +6,4 @@ use Rattle.columns.proofs.lines.put_admitted.Goals as goal
 
 pub returns-in-Word : goal.returns-in-Word
 returns-in-Word c =
-    IfOk-weaker c.put-words.result _ _ (λ _ e. e ∙ ap (λ s. vec_items c.args.out.now ++ admitted (sort_of s)) (sym c.in-Word.is)) c.put-words.ensures
+    IfOk-weaker c.put_words.result _ _ (λ _ e. e ∙ ap (λ s. vec_items c.args.out.now ++ admitted (sort_of s)) (sym c.in-Word.is)) c.put_words.ensures

@@ -7,4 +7,4 @@ use Rattle.columns.proofs.lines.put_place.Goals as goal
 pub returns : goal.returns
 returns c =
     let rest = positions (field_of c.args.field) in
-    IfOk-weaker c.put-positions.result _ _ (λ _ e. e ∙ ap (λ bs. bs ++ rest) c.in-ok-extend-from-slice.ensures.items ∙ append_assoc (vec_items c.args.out.now) (c.args.letter ∷ 32 ∷ c.args.mark ∷ 32 ∷ []) rest) c.put-positions.ensures
+    IfOk-weaker c.put_positions.result _ _ (λ _ e. e ∙ ap (λ bs. bs ++ rest) c.in_ok-extend_from_slice.ensures.items ∙ append_assoc (vec_items c.args.out.now) (c.args.letter ∷ 32 ∷ c.args.mark ∷ 32 ∷ []) rest) c.put_positions.ensures

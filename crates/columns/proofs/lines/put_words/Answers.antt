@@ -12,7 +12,7 @@ quoted_at w = quoted w.now
 
 pub loop-word-preserved : goal.loop-word-preserved
 loop-word-preserved c =
-    spread_next quoted_at c.args.words.now c.loop-word.word-index no_word _ _ _ c.loop-word-test.true c.in-ok-put-quoted.ensures c.loop-word.invariant
+    spread_next quoted_at c.args.words.now c.loop-word.word-index no_word _ _ _ c.loop-word-test.true c.in_ok-put_quoted.ensures c.loop-word.invariant
 
 pub returns : goal.returns
 returns c =

@@ -7,7 +7,7 @@ use Rattle.columns.proofs.tables.put_book.Goals as goal
 
 pub loop-kind-preserved : goal.loop-kind-preserved
 loop-kind-preserved g c =
-    kind_tabled c.args.letter g.B.Meant.meaning c.kinds-kind-items.result.now c.loop-kind.kind-index (kind_with 0) _ _ _ c.loop-kind-test.true c.loop-kind.invariant c.in-ok-put-kind.ensures
+    kind_tabled c.args.letter g.B.Meant.meaning c.kinds-kind-items.result.now c.loop-kind.kind-index (kind_with 0) _ _ _ c.loop-kind-test.true c.loop-kind.invariant c.in_ok-put_kind.ensures
 
 pub returns : goal.returns
 returns g c =

@@ -10,28 +10,28 @@ use Rattle.drafts.proofs.Preparing.{unworked, nothing_fits, at_fields, at_condit
 use Rattle.drafts.proofs.Stops.{first_stops, second_stops, both_pass}
 use Rattle.drafts.proofs.drafts.print_unworked.Goals as goal
 
-pub returns-in-err-print : goal.returns-in-err-print
-returns-in-err-print g c =
+pub returns-in_err-print : goal.returns-in_err-print
+returns-in_err-print g c =
     let l = g.B.Meant.meaning in
     let h = handed_of c.args.entry in
-    let e = c.in-err-print.field-0.0 in
+    let e = c.in_err-print.field-0.0 in
     let p = err_from_is_err_and c.from-residual.result c.from-residual.ensures.1 in
     rw p.1 (record {
       refused = λ suited. ap Some (ap of_draft p.2 ∙ draft_tells e)
-          ∙ first_stops (fields11 l (meant h)) (conditions15 l (meant h)) (at_fields l g.B.Meant.lawful h suited c.args.row-number (Some (of_entry e)) (worked_of unworked) nothing_fits c.in-err-print.ensures.refused);
+          ∙ first_stops (fields11 l (meant h)) (conditions15 l (meant h)) (at_fields l g.B.Meant.lawful h suited c.args.row_number (Some (of_entry e)) (worked_of unworked) nothing_fits c.in_err-print.ensures.refused);
       drawn = λ suited. tt;
     })
 
-pub returns-in-err-judge : goal.returns-in-err-judge
-returns-in-err-judge g c =
+pub returns-in_err-judge : goal.returns-in_err-judge
+returns-in_err-judge g c =
     let l = g.B.Meant.meaning in
     let h = handed_of c.args.entry in
-    let p = err_from_is_err_and c.from-residual-in-err-judge.result c.from-residual-in-err-judge.ensures.1 in
+    let p = err_from_is_err_and c.from-residual-in_err-judge.result c.from-residual-in_err-judge.ensures.1 in
     rw (p.1, p.2) (record {
       refused = λ suited.
           second_stops (fields11 l (meant h)) (conditions15 l (meant h))
-          (at_fields l g.B.Meant.lawful h suited c.args.row-number None (worked_of unworked) nothing_fits c.in-ok-print.ensures.refused)
-          (at_conditions l g.B.Meant.lawful h suited _ c.print.new.row c.in-ok-print.ensures.printed c.args.row-number (Some (of_row c.in-err-judge.field-0.0)) c.in-err-judge.ensures.refused);
+          (at_fields l g.B.Meant.lawful h suited c.args.row_number None (worked_of unworked) nothing_fits c.in_ok-print.ensures.refused)
+          (at_conditions l g.B.Meant.lawful h suited _ c.print.new.row c.in_ok-print.ensures.printed c.args.row_number (Some (of_row c.in_err-judge.field-0.0)) c.in_err-judge.ensures.refused);
       drawn = λ suited. tt;
     })
 
@@ -39,14 +39,14 @@ pub returns : goal.returns
 returns g c =
     let l = g.B.Meant.meaning in
     let h = handed_of c.args.entry in
-    let n = c.args.row-number in
+    let n = c.args.row_number in
     let law = g.B.Meant.lawful in
     record {
       refused = λ suited.
           both_pass (fields11 l (meant h)) (conditions15 l (meant h))
-          (at_fields l law h suited n None (worked_of unworked) nothing_fits c.in-ok-print.ensures.refused)
-          (at_conditions l law h suited _ c.print.new.row c.in-ok-print.ensures.printed n None c.in-ok-judge.ensures.refused);
+          (at_fields l law h suited n None (worked_of unworked) nothing_fits c.in_ok-print.ensures.refused)
+          (at_conditions l law h suited _ c.print.new.row c.in_ok-print.ensures.printed n None c.in_ok-judge.ensures.refused);
       drawn = λ suited.
-          drawn l law h suited _ c.print.new.row c.in-ok-print.ensures.printed
-          (no_fault n _ (sym (at_conditions l law h suited _ c.print.new.row c.in-ok-print.ensures.printed n None c.in-ok-judge.ensures.refused)));
+          drawn l law h suited _ c.print.new.row c.in_ok-print.ensures.printed
+          (no_fault n _ (sym (at_conditions l law h suited _ c.print.new.row c.in_ok-print.ensures.printed n None c.in_ok-judge.ensures.refused)));
     }

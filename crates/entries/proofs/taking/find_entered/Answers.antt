@@ -1,13 +1,13 @@
 use Rattle.std.proofs.Common.{refl, arith}
 use Rattle.entries.proofs.Takes.{pass_field, meet_field, seen_none, seen_pass, seen_all, seen_found, seen_next}
 use Rattle.entries.proofs.taking.find_entered.Goals as goal
-use Rattle.entries.proofs.taking.find_entered.Goals.{in-Entered+else-seen-number, in-default}
+use Rattle.entries.proofs.taking.find_entered.Goals.{in-Entered+else-seen-number, in_default}
 
 pub loop-field-init : goal.loop-field-init
 loop-field-init c = seen_none c.args.fields.now c.args.number
 
-pub overflow-add-seen : goal.overflow-add-seen
-overflow-add-seen c = omega (arith, c.loop-field.invariant.few)
+pub overflow_add-seen : goal.overflow_add-seen
+overflow_add-seen c = omega (arith, c.loop-field.invariant.few)
 
 pub returns-then-seen-number : goal.returns-then-seen-number
 returns-then-seen-number c =
@@ -20,11 +20,11 @@ loop-field-preserved c =
     let xs = c.args.fields.now in
     let i = c.loop-field.field-index in
     let seen = c.loop-field.seen in
-    elim c.match-origin-of.branch [
+    elim c.match-origin_of.branch [
       | in-Entered+else-seen-number w ↦
           rw w.seen-is (seen_next xs c.args.number i seen c.loop-field.invariant _ (meet_field xs i _ c.loop-field-test.true w.in-Entered.field-0 w.in-Entered.ensures) w.if-seen-number.false)
-      | in-default w ↦
-          rw w.seen-is (seen_pass xs c.args.number i seen c.loop-field.invariant (pass_field xs i _ c.loop-field-test.true c.origin-of.result w.in-default.not-Entered c.origin-of.ensures))
+      | in_default w ↦
+          rw w.seen-is (seen_pass xs c.args.number i seen c.loop-field.invariant (pass_field xs i _ c.loop-field-test.true c.origin_of.result w.in_default.not-Entered c.origin_of.ensures))
     ]
 
 pub returns : goal.returns

@@ -13,38 +13,38 @@ use Rattle.entries.proofs.taking.take.Goals as goal
 of_row_lem : (l : Layout) (whole row : List ℕ) (o : Option Refusal) → whole ≡ row → o ≡ in_row 0 (first_some (row_faults l whole)) → o ≡ in_row 0 (first_some (row_faults l row))
 of_row_lem l whole row o e h = subst (λ r. o ≡ in_row 0 (first_some (row_faults l r))) e h
 
-pub returns-in-err-kind : goal.returns-in-err-kind
-returns-in-err-kind g c =
+pub returns-in_err-kind : goal.returns-in_err-kind
+returns-in_err-kind g c =
     let l = g.B.Meant.meaning in
     let row = c.args.row.now in
     let w = c.in-Ok.ensures.1 in
     let p = err_from_is_err_and c.from-residual.result c.from-residual.ensures.1 in
-    rw (p.1, p.2) (record { answer = sym (take_refused l row w.long c.args.number _ (of_row_lem l c.in-Ok.whole.now row _ w.same c.in-err-kind.ensures.refused)); place = tt })
+    rw (p.1, p.2) (record { answer = sym (take_refused l row w.long c.args.number _ (of_row_lem l c.in-Ok.whole.now row _ w.same c.in_err-kind.ensures.refused)); place = tt })
 
-pub returns-in-err-field : goal.returns-in-err-field
-returns-in-err-field g c =
+pub returns-in_err-field : goal.returns-in_err-field
+returns-in_err-field g c =
     let l = g.B.Meant.meaning in
     let row = c.args.row.now in
     let w = c.in-Ok.ensures.1 in
-    let kind = c.in-ok-kind.ensures in
+    let kind = c.in_ok-kind.ensures in
     let fs = map field_of c.fields.result.now in
     let is = c.fields.ensures ∙ ap (fields_of l) (kind.found ∙ ap mark_of w.same) in
-    let none = c.in-err-field.ensures in
-    let p = err_from_is_err_and c.from-residual-in-err-field.result c.from-residual-in-err-field.ensures.1 in
+    let none = c.in_err-field.ensures in
+    let p = err_from_is_err_and c.from-residual-in_err-field.result c.from-residual-in_err-field.ensures.1 in
     rw (p.1, p.2) (record { answer = sym (take_past l row w.long c.args.number g.B.Meant.lawful (of_row_lem l c.in-Ok.whole.now row None w.same kind.refused) fs is none.1 ∙ ap Err (sym none.0)); place = tt })
 
-pub taken-from-requires : goal.taken-from-requires
-taken-from-requires g c =
+pub taken_from-requires : goal.taken_from-requires
+taken_from-requires g c =
     let l = g.B.Meant.meaning in
     let row = c.args.row.now in
     let w = c.in-Ok.ensures.1 in
-    let kind = c.in-ok-kind.ensures in
+    let kind = c.in_ok-kind.ensures in
     let fs = map field_of c.fields.result.now in
     let is = c.fields.ensures ∙ ap (fields_of l) (kind.found ∙ ap mark_of w.same) in
-    let at = c.in-ok-field.ensures in
+    let at = c.in_ok-field.ensures in
     record {
       same = w.same;
-      held = take_held l row w.long c.args.number g.B.Meant.lawful (of_row_lem l c.in-Ok.whole.now row None w.same kind.refused) fs is at.0 at.1 (field_of c.in-ok-field.field) at.2;
+      held = take_held l row w.long c.args.number g.B.Meant.lawful (of_row_lem l c.in-Ok.whole.now row None w.same kind.refused) fs is at.0 at.1 (field_of c.in_ok-field.field) at.2;
     }
 
 pub returns : goal.returns
@@ -52,13 +52,13 @@ returns g c =
     let l = g.B.Meant.meaning in
     let row = c.args.row.now in
     let w = c.in-Ok.ensures.1 in
-    let kind = c.in-ok-kind.ensures in
+    let kind = c.in_ok-kind.ensures in
     let fs = map field_of c.fields.result.now in
     let is = c.fields.ensures ∙ ap (fields_of l) (kind.found ∙ ap mark_of w.same) in
-    let at = c.in-ok-field.ensures in
+    let at = c.in_ok-field.ensures in
     let here = at.2 ∙ ap (λ fs. get_or (entered_of fs) (c.args.number - 1) no_field) is in
-    let taken = c.taken-from.ensures in
+    let taken = c.taken_from.ensures in
     record {
-      answer = sym (take_value_lem l row w.long c.args.number g.B.Meant.lawful (of_row_lem l c.in-Ok.whole.now row None w.same kind.refused) fs is at.0 at.1 (field_of c.in-ok-field.field) at.2 (value_in c.taken-from.result) taken.value);
-      place = subst (λ f. TakenAt c.args.row.ptr f c.taken-from.result) here taken.place;
+      answer = sym (take_value_lem l row w.long c.args.number g.B.Meant.lawful (of_row_lem l c.in-Ok.whole.now row None w.same kind.refused) fs is at.0 at.1 (field_of c.in_ok-field.field) at.2 (value_in c.taken_from.result) taken.value);
+      place = subst (λ f. TakenAt c.args.row.ptr f c.taken_from.result) here taken.place;
     }

@@ -10,8 +10,8 @@ use Rattle.entries.proofs.taking.taken_from.Goals as goal
 front_of : (f : s.Field) (t whole row : List ℕ) → whole ≡ row → t ≡ take (length t) (part f whole) → t ≡ take (length t) (part f row)
 front_of f t whole row e h = subst (λ r. t ≡ take (length t) (part f r)) e h
 
-pub slice-bounds-result-end : goal.slice-bounds-result-end
-slice-bounds-result-end c =
+pub slice_bounds-result-end : goal.slice_bounds-result-end
+slice_bounds-result-end c =
     let f = field_of c.args.field.now in
     let row = c.args.row.now in
     let t = c.in-Text.text.now in

@@ -5,7 +5,7 @@ use Rattle.records.specs.Entries.{value_fault}
 use Rattle.records.proofs.Options.{unless_true}
 use Rattle.entries.proofs.Asking.{ask_none, ask_one, asking_none, asking_skip, asking_room, asking_next, asking_refused, asking_all}
 use Rattle.entries.proofs.values.check_each.Goals as goal
-use Rattle.entries.proofs.values.check_each.Goals.{in-Entered+in-ok-check-value, in-default}
+use Rattle.entries.proofs.values.check_each.Goals.{in-Entered+in_ok-check_value, in_default}
 
 pub loop-field-init : goal.loop-field-init
 loop-field-init c = asking_none c.args.fields.now c.args.values.now c.args.pool.now c.requires
@@ -13,10 +13,10 @@ loop-field-init c = asking_none c.args.fields.now c.args.values.now c.args.pool.
 pub bounds-values-next : goal.bounds-values-next
 bounds-values-next c = asking_room c.args.fields.now c.args.values.now c.args.pool.now c.loop-field.field-index c.loop-field.next c.loop-field.invariant (asks_for c.in-Entered.asked) (ask_one c.args.fields.now c.loop-field.field-index _ c.loop-field-test.true c.in-Entered.asked c.in-Entered.ensures)
 
-pub returns-in-err-check-value : goal.returns-in-err-check-value
-returns-in-err-check-value c =
+pub returns-in_err-check_value : goal.returns-in_err-check_value
+returns-in_err-check_value c =
     let p = err_from_is_err_and c.from-residual.result c.from-residual.ensures.1 in
-    rw (p.1, p.2) (asking_refused c.args.fields.now c.args.values.now c.args.pool.now c.loop-field.field-index c.loop-field.next c.loop-field.invariant (asks_for c.in-Entered.asked) (ask_one c.args.fields.now c.loop-field.field-index _ c.loop-field-test.true c.in-Entered.asked c.in-Entered.ensures) _ _ c.in-err-check-value.ensures)
+    rw (p.1, p.2) (asking_refused c.args.fields.now c.args.values.now c.args.pool.now c.loop-field.field-index c.loop-field.next c.loop-field.invariant (asks_for c.in-Entered.asked) (ask_one c.args.fields.now c.loop-field.field-index _ c.loop-field-test.true c.in-Entered.asked c.in-Entered.ensures) _ _ c.in_err-check_value.ensures)
 
 pub loop-field-preserved : goal.loop-field-preserved
 loop-field-preserved c =
@@ -24,11 +24,11 @@ loop-field-preserved c =
     let vs = c.args.values.now in
     let pool = c.args.pool.now in
     let i = c.loop-field.field-index in
-    elim c.match-origin-of.branch [
-      | in-Entered+in-ok-check-value w ↦
-          rw w.next-is (asking_next xs vs pool i c.loop-field.next c.loop-field.invariant (asks_for w.in-Entered.asked) (ask_one xs i _ c.loop-field-test.true w.in-Entered.asked w.in-Entered.ensures) _ (unless_true _ _ (sym w.in-ok-check-value.ensures)))
-      | in-default w ↦
-          rw w.next-is (asking_skip xs vs pool i c.loop-field.next c.loop-field.invariant (ask_none xs i _ c.loop-field-test.true c.origin-of.result w.in-default.not-Entered c.origin-of.ensures))
+    elim c.match-origin_of.branch [
+      | in-Entered+in_ok-check_value w ↦
+          rw w.next-is (asking_next xs vs pool i c.loop-field.next c.loop-field.invariant (asks_for w.in-Entered.asked) (ask_one xs i _ c.loop-field-test.true w.in-Entered.asked w.in-Entered.ensures) _ (unless_true _ _ (sym w.in_ok-check_value.ensures)))
+      | in_default w ↦
+          rw w.next-is (asking_skip xs vs pool i c.loop-field.next c.loop-field.invariant (ask_none xs i _ c.loop-field-test.true c.origin_of.result w.in_default.not-Entered c.origin_of.ensures))
     ]
 
 pub returns : goal.returns

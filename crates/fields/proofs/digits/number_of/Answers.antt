@@ -5,14 +5,14 @@ use Rattle.fields.proofs.digits.number_of.Goals as goal
 pub loop-digit-init : goal.loop-digit-init
 loop-digit-init c = reading.start c.args.digits.now
 
-pub overflow-sub-number : goal.overflow-sub-number
-overflow-sub-number c = (reading.digit_at c.args.digits.now c.requires.good c.loop-digit.digit-index (omega arith)).0
+pub overflow_sub-number : goal.overflow_sub-number
+overflow_sub-number c = (reading.digit_at c.args.digits.now c.requires.good c.loop-digit.digit-index (omega arith)).0
 
-pub overflow-mul-number : goal.overflow-mul-number
-overflow-mul-number c = omega (arith, reading.room c.loop-digit.digit-index c.loop-digit.number 0 (omega (arith, c.requires.short)) c.loop-digit.invariant.small (omega arith))
+pub overflow_mul-number : goal.overflow_mul-number
+overflow_mul-number c = omega (arith, reading.room c.loop-digit.digit-index c.loop-digit.number 0 (omega (arith, c.requires.short)) c.loop-digit.invariant.small (omega arith))
 
-pub overflow-add-number : goal.overflow-add-number
-overflow-add-number c =
+pub overflow_add-number : goal.overflow_add-number
+overflow_add-number c =
     let d = get_or c.args.digits.now c.loop-digit.digit-index 0 in
     let is = reading.digit_at c.args.digits.now c.requires.good c.loop-digit.digit-index (omega arith) in
     omega (arith, reading.room c.loop-digit.digit-index c.loop-digit.number (d - 48) (omega (arith, c.requires.short)) c.loop-digit.invariant.small (omega (arith, is.1)))

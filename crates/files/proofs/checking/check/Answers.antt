@@ -12,8 +12,8 @@ use Rattle.files.proofs.checking.check.Goals as goal
 pub loop-i-init : goal.loop-i-init
 loop-i-init g c = (c.new-progress.ensures g.B.Meant.meaning, refl)
 
-pub returns-in-err-take-row : goal.returns-in-err-take-row
-returns-in-err-take-row g c =
+pub returns-in_err-take_row : goal.returns-in_err-take_row
+returns-in_err-take_row g c =
     let l = g.B.Meant.meaning in
     let rows = g.S.Source.rows c.args.source.now in
     let i = c.loop-i.i in
@@ -23,7 +23,7 @@ returns-in-err-take-row g c =
     let back : i + 1 - 1 ≡ i = omega arith in
     let is = copied.2 ∙ ap (λ k. get_or rows k []) back in
     let p = err_from_is_err_and c.from-residual.result c.from-residual.ensures.1 in
-    let stop = checked_stops l rows i less _ is _ (c.in-err-take-row.ensures (entries_to l rows i) inv.0) in
+    let stop = checked_stops l rows i less _ is _ (c.in_err-take_row.ensures (entries_to l rows i) inv.0) in
     let answer : told c.from-residual.result ≡ checked l rows = ap told p.1 ∙ ap (λ f. Err (of_file f)) p.2 ∙ sym stop ∙ inv.1 in
     record {
       answer = answer;
@@ -42,7 +42,7 @@ loop-i-preserved g c =
     let less : i < length rows = omega (arith, copied.1) in
     let back : i + 1 - 1 ≡ i = omega arith in
     let is = copied.2 ∙ ap (λ k. get_or rows k []) back in
-    let h = c.in-ok-take-row.ensures (entries_to l rows i) inv.0 in
+    let h = c.in_ok-take_row.ensures (entries_to l rows i) inv.0 in
     (subst (Stands l _) (sym (entries_more l rows i less _ is)) h.1, checked_more l rows i less _ is h.0 ∙ inv.1)
 
 pub returns : goal.returns

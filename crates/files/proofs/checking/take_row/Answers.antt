@@ -5,29 +5,29 @@ use Rattle.legality.specs.Checks.{read_checks, work_checks}
 use Rattle.files.proofs.Stages.{all_here, skip_all}
 use Rattle.files.proofs.checking.take_row.Goals as goal
 
-pub returns-in-err-number : goal.returns-in-err-number
-returns-in-err-number g c =
+pub returns-in_err-number : goal.returns-in_err-number
+returns-in_err-number g c =
     let l = g.B.Meant.meaning in
     let row = c.args.row.now in
     let p = err_from_is_err_and c.from-residual.result c.from-residual.ensures.1 in
-    rw (p.1, p.2) (λ es s. sym (all_here (length es + 1) _ (read_checks l es row) (work_checks l es row) (c.in-err-number.ensures.refused es s)))
+    rw (p.1, p.2) (λ es s. sym (all_here (length es + 1) _ (read_checks l es row) (work_checks l es row) (c.in_err-number.ensures.refused es s)))
 
-pub returns-in-err-sum : goal.returns-in-err-sum
-returns-in-err-sum g c =
+pub returns-in_err-sum : goal.returns-in_err-sum
+returns-in_err-sum g c =
     let l = g.B.Meant.meaning in
     let row = c.args.row.now in
-    let p = err_from_is_err_and c.from-residual-in-err-sum.result c.from-residual-in-err-sum.ensures.1 in
+    let p = err_from_is_err_and c.from-residual-in_err-sum.result c.from-residual-in_err-sum.ensures.1 in
     rw (p.1, p.2) (λ es s.
-    let next = c.in-ok-number.ensures.found es s in
-    sym (skip_all (length es + 1) _ (read_checks l es row) (work_checks l es row) (c.in-ok-number.ensures.refused es s)
-    (c.in-err-sum.ensures.refused es s next ∙ ap (λ n. in_row n (first_some (work_checks l es row))) next.number)))
+    let next = c.in_ok-number.ensures.found es s in
+    sym (skip_all (length es + 1) _ (read_checks l es row) (work_checks l es row) (c.in_ok-number.ensures.refused es s)
+    (c.in_err-sum.ensures.refused es s next ∙ ap (λ n. in_row n (first_some (work_checks l es row))) next.number)))
 
 pub returns : goal.returns
 returns g c es s =
     let l = g.B.Meant.meaning in
     let row = c.args.row.now in
-    let next = c.in-ok-number.ensures.found es s in (
-      sym (skip_all (length es + 1) None (read_checks l es row) (work_checks l es row) (c.in-ok-number.ensures.refused es s)
-          (c.in-ok-sum.ensures.refused es s next ∙ ap (λ n. in_row n (first_some (work_checks l es row))) next.number)),
-      c.advance.ensures es s next (c.in-ok-sum.ensures.sum es s next),
+    let next = c.in_ok-number.ensures.found es s in (
+      sym (skip_all (length es + 1) None (read_checks l es row) (work_checks l es row) (c.in_ok-number.ensures.refused es s)
+          (c.in_ok-sum.ensures.refused es s next ∙ ap (λ n. in_row n (first_some (work_checks l es row))) next.number)),
+      c.advance.ensures es s next (c.in_ok-sum.ensures.sum es s next),
     )

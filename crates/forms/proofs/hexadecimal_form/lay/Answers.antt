@@ -4,7 +4,7 @@ use Rattle.forms.specs.FormLaws.{digits_more, hex_same}
 use Rattle.forms.proofs.hexadecimal_form.lay.Goals as goal
 
 pub loop-k-preserved : goal.loop-k-preserved
-loop-k-preserved c = digits_more c.args.row.now c.loop-k.out c.loop-k.k _ _ (c.loop-k.auto.out ∙ c.requires) c.loop-k-test.true c.to-digit.ensures c.to-digit-in-loop-k.ensures c.loop-k.invariant
+loop-k-preserved c = digits_more c.args.row.now c.loop-k.out c.loop-k.k _ _ (c.loop-k.auto.out ∙ c.requires) c.loop-k-test.true c.to_digit.ensures c.to_digit-in-loop-k.ensures c.loop-k.invariant
 
 pub returns : goal.returns
 returns c =

@@ -10,7 +10,7 @@ loop-k-preserved c =
     let k = c.loop-k.k in
     let out = c.loop-k.out in
     let lt : k < length out = omega arith in
-    let v : c.to-value.result * 16 + c.to-value-in-loop-k.result ≡ pair_at c.args.from.now k = omega arith in
+    let v : c.to_value.result * 16 + c.to_value-in-loop-k.result ≡ pair_at c.args.from.now k = omega arith in
     (length-set out k _ ∙ c.loop-k.invariant.0, rw v (fill_by_more (pair_at c.args.from.now) out k 0 lt c.loop-k.invariant.1))
 
 pub returns : goal.returns

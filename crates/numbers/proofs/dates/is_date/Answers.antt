@@ -6,5 +6,5 @@ use Rattle.numbers.proofs.dates.is_date.Goals as goal
 
 pub returns-else-number-eq0 : goal.returns-else-number-eq0
 returns-else-number-eq0 c =
-    let e : c.is-on-calendar.result ≡ is_date c.args.number = search rules in
-    record { test = e; calendar = Decides-at c.is-on-calendar.result (is_date c.args.number) e (date_law c.args.number) }
+    let e : c.is_on_calendar.result ≡ is_date c.args.number = search rules in
+    record { test = e; calendar = Decides-at c.is_on_calendar.result (is_date c.args.number) e (date_law c.args.number) }

@@ -7,5 +7,5 @@ use Rattle.records.proofs.conditions.length_at.Goals as goal
 pub returns : goal.returns
 returns c = record {
   small = omega arith;
-  value = ap length c.text_in.ensures.bytes ∙ ap (λ x. length (text_in x)) (held_at (map field_of c.args.fields.now) c.args.row.now c.args.place c.requires _ c.field-at.ensures);
+  value = ap length c.text_in.ensures.bytes ∙ ap (λ x. length (text_in x)) (held_at (map field_of c.args.fields.now) c.args.row.now c.args.place c.requires _ c.field_at.ensures);
 }

@@ -6,12 +6,12 @@ pub bounds-names-i : goal.bounds-names-i
 bounds-names-i g c = omega (arith, as_many _ _ c.fields-fields.ensures, c.names-names.ensures)
 
 -- the covering law keeps a field within the row
-pub put-name-requires : goal.put-name-requires
-put-name-requires g c =
+pub put_name-requires : goal.put_name-requires
+put_name-requires g c =
     let h = read_inside g.B.Meant.meaning g.B.Meant.lawful c.args.kind.mark c.fields-fields.result.now c.fields-fields.ensures c.loop-i.i unread c.loop-i-test.true in
     (h.from, h.to)
 
-pub put-content-requires : goal.put-content-requires
-put-content-requires g c =
+pub put_content-requires : goal.put_content-requires
+put_content-requires g c =
     let h = read_inside g.B.Meant.meaning g.B.Meant.lawful c.args.kind.mark c.fields-fields.result.now c.fields-fields.ensures c.loop-i.i unread c.loop-i-test.true in
     (h.from, h.to)

@@ -8,5 +8,5 @@ pub returns : goal.returns
 returns g c good here =
     let l = g.B.Meant.meaning in
     let row = c.args.row.now in
-    c.number-in.ensures ∙ ap (λ f. number_in (cell_in f row)) c.field-of.ensures
+    c.number_in.ensures ∙ ap (λ f. number_in (cell_in f row)) c.field_of.ensures
     ∙ amount_held l g.B.Meant.lawful row good c.args.kind.mark here l.summed refl c.in-Some.place c.in-Some.ensures (search rules)

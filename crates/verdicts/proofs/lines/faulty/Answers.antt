@@ -1,4 +1,4 @@
 use Rattle.verdicts.proofs.lines.faulty.Goals as goal
 
 pub returns : goal.returns
-returns c = rw (c.put-digits-3.ensures, c.put-digits-2.ensures, c.put-digits.ensures, c.row-of.ensures, c.refusal-refusal.ensures)
+returns c = rw (c.put_digits-3.ensures, c.put_digits-2.ensures, c.put_digits.ensures, c.row_of.ensures, c.refusal-refusal.ensures)

@@ -1,4 +1,4 @@
 use Rattle.verdicts.proofs.lines.in_order.Goals as goal
 
 pub returns : goal.returns
-returns c = rw (c.put-digits-2.ensures, c.put-digits.ensures, c.value.ensures.0)
+returns c = rw (c.put_digits-2.ensures, c.put_digits.ensures, c.value.ensures.0)

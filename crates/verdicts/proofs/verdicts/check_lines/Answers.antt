@@ -13,15 +13,15 @@ returns-in-Err g c =
     let broken = c.in-Err.ensures.opened in
     rw (form_broken c.args.lines.now broken.0 broken.2) (ap (λ r. Err (named r.number (r.first / 1501 + 1) r.second)) broken.1)
 
-pub returns-in-err-check : goal.returns-in-err-check
-returns-in-err-check g c =
+pub returns-in_err-check : goal.returns-in_err-check
+returns-in_err-check g c =
     let kept = c.in-Ok.ensures.opened in
     let p = err_from_is_err_and c.from-residual.result c.from-residual.ensures.1 in
     let same = ap (λ bs. in_names (checked g.B.Meant.meaning (opened unhexed 1501 bs))) kept.0 in
-    ap told p.1 ∙ ap (λ f. told (Err f)) p.2 ∙ rw (form_kept c.args.lines.now kept.1) (ap in_names c.in-err-check.ensures.answer ∙ same)
+    ap told p.1 ∙ ap (λ f. told (Err f)) p.2 ∙ rw (form_kept c.args.lines.now kept.1) (ap in_names c.in_err-check.ensures.answer ∙ same)
 
 pub returns : goal.returns
 returns g c =
     let kept = c.in-Ok.ensures.opened in
     let same = ap (λ bs. in_names (checked g.B.Meant.meaning (opened unhexed 1501 bs))) kept.0 in
-    rw (form_kept c.args.lines.now kept.1) (ap in_names c.in-ok-check.ensures.answer ∙ same)
+    rw (form_kept c.args.lines.now kept.1) (ap in_names c.in_ok-check.ensures.answer ∙ same)

@@ -11,9 +11,9 @@ returns-in-Some c =
     let l = c.in-Some.letter in
     let is = begins input l c.if-input-lt2.false c.in-Some.ensures c.if-input-ne10.false in
     let rest = take_all (length input - 2) (drop 2 input) (omega (arith, length-drop 2 input)) in
-    c.check-book.ensures ∙ ap (checked_lines (layout_of l)) rest ∙ sym (of_letter input l (drop 2 input) c.if-input-gt-LARGEST-INPUT.false is)
+    c.check_book.ensures ∙ ap (checked_lines (layout_of l)) rest ∙ sym (of_letter input l (drop 2 input) c.if-input-gt-LARGEST_INPUT.false is)
 
 pub returns-in-None : goal.returns-in-None
 returns-in-None c =
     let input = c.args.input.now in
-    sym (of_none input c.if-input-gt-LARGEST-INPUT.false (λ l lines is. c.in-None.ensures l (ap (λ i. get_or i 0 0) (sym is))))
+    sym (of_none input c.if-input-gt-LARGEST_INPUT.false (λ l lines is. c.in-None.ensures l (ap (λ i. get_or i 0 0) (sym is))))

@@ -12,61 +12,61 @@ use Rattle.drafts.proofs.Laying.{nothing}
 use Rattle.drafts.proofs.Taking.{not_admitted, not_fit, places_used_up, taken, ready, stays, goes_on}
 use Rattle.drafts.proofs.drafts.Draft.take_entry.Goals as goal
 
-pub returns-in-err-admitted : goal.returns-in-err-admitted
-returns-in-err-admitted g c =
+pub returns-in_err-admitted : goal.returns-in_err-admitted
+returns-in_err-admitted g c =
     let l = g.B.Meant.meaning in
     let h = handed_of c.args.entry in
     let call = call_of c.args.call in
-    let x = of_draft c.in-err-admitted.field-0.0 in
+    let x = of_draft c.in_err-admitted.field-0.0 in
     let p = err_from_is_err_and c.from-residual.result c.from-residual.ensures.1 in
     rw (p.1, p.2) (record {
       told = (
         (λ v s.
-            let e = not_admitted l v call h x (c.in-err-admitted.ensures.refused v s) in
+            let e = not_admitted l v call h x (c.in_err-admitted.ensures.refused v s) in
             (e, stays l v call h (Shows {B = g.row.B.Denot} {C = g.row.C.Denot} l g.C.Source.rows g.C.Carrier.places) c.args.self.now x e s)),
         refl,
       );
       wrote = nothing g.C.Source.rows g.C.Carrier.memory g.C.Carrier.lenders g.C.Carrier.size g.C.Carrier.line c.args.self.now;
     })
 
-pub returns-in-err-prepared : goal.returns-in-err-prepared
-returns-in-err-prepared g c =
+pub returns-in_err-prepared : goal.returns-in_err-prepared
+returns-in_err-prepared g c =
     let l = g.B.Meant.meaning in
     let h = handed_of c.args.entry in
     let call = call_of c.args.call in
-    let admitted = c.in-ok-admitted in
-    let x = of_draft c.in-err-prepared.field-0.0 in
-    let p = err_from_is_err_and c.from-residual-in-err-prepared.result c.from-residual-in-err-prepared.ensures.1 in
+    let admitted = c.in_ok-admitted in
+    let x = of_draft c.in_err-prepared.field-0.0 in
+    let p = err_from_is_err_and c.from-residual-in_err-prepared.result c.from-residual-in_err-prepared.ensures.1 in
     rw (p.1, p.2) (record {
       told = (
         (λ v s.
             let a = admitted.ensures.refused v s in
             let fit = ready l v call h _ _ a (admitted.ensures.number v s) admitted.ensures.kind in
-            let e = not_fit l v call h x a (c.in-err-prepared.ensures.refused v s fit) in
+            let e = not_fit l v call h x a (c.in_err-prepared.ensures.refused v s fit) in
             (e, stays l v call h (Shows {B = g.row.B.Denot} {C = g.row.C.Denot} l g.C.Source.rows g.C.Carrier.places) c.args.self.now x e s)),
         refl,
       );
       wrote = nothing g.C.Source.rows g.C.Carrier.memory g.C.Carrier.lenders g.C.Carrier.size g.C.Carrier.line c.args.self.now;
     })
 
-pub returns-in-err-push : goal.returns-in-err-push
-returns-in-err-push g c =
+pub returns-in_err-push : goal.returns-in_err-push
+returns-in_err-push g c =
     let l = g.B.Meant.meaning in
     let h = handed_of c.args.entry in
     let call = call_of c.args.call in
     let d = c.args.self.now in
-    let admitted = c.in-ok-admitted in
-    let push = c.in-err-push.ensures in
-    let p = err_from_is_err_and c.from-residual-in-err-push.result c.from-residual-in-err-push.ensures.1 in
+    let admitted = c.in_ok-admitted in
+    let push = c.in_err-push.ensures in
+    let p = err_from_is_err_and c.from-residual-in_err-push.result c.from-residual-in_err-push.ensures.1 in
     rw (p.1, p.2) (record {
       told = (
         (λ v s.
             let a = admitted.ensures.refused v s in
             let fit = ready l v call h _ _ a (admitted.ensures.number v s) admitted.ensures.kind in
-            let b = c.in-ok-prepared.ensures.refused v s fit in
+            let b = c.in_ok-prepared.ensures.refused v s fit in
             let full : v.places ≤ length v.rows = omega (arith, push.pushed.1, ap length s.2, s.3) in
             let used = places_used_up l v call h a b full in
-            let x : Some (of_carrier c.in-err-push.field-0.0) ≡ Some (refusal 2 v.places 0) = ap Some (push.pushed.0 ∙ ap (λ k. refusal 2 k 0) s.3) in
+            let x : Some (of_carrier c.in_err-push.field-0.0) ≡ Some (refusal 2 v.places 0) = ap Some (push.pushed.0 ∙ ap (λ k. refusal 2 k 0) s.3) in
             (x ∙ used, stays l v call h (Shows {B = g.row.B.Denot} {C = g.row.C.Denot} l g.C.Source.rows g.C.Carrier.places) (record { book = d.book; carrier = c.push.new.self; state = d.state; progress = d.progress }) _ used (subst (λ k. Shows {B = g.row.B.Denot} {C = g.row.C.Denot} l g.C.Source.rows g.C.Carrier.places (record { book = d.book; carrier = k; state = d.state; progress = d.progress }) v) (sym push.kept) s))),
         ap (λ k. record { book = d.book; carrier = k; state = d.state; progress = d.progress }) push.kept,
       );
@@ -78,16 +78,16 @@ returns g c =
     let l = g.B.Meant.meaning in
     let h = handed_of c.args.entry in
     let call = call_of c.args.call in
-    let admitted = c.in-ok-admitted in
-    let push = c.in-ok-push.ensures in
+    let admitted = c.in_ok-admitted in
+    let push = c.in_ok-push.ensures in
     record {
       told = (
         (λ v s.
             let a = admitted.ensures.refused v s in
             let n = admitted.ensures.number v s in
             let able = ready l v call h _ _ a n admitted.ensures.kind in
-            let b = c.in-ok-prepared.ensures.refused v s able in
-            let fit = c.in-ok-prepared.ensures.fit v s able in
+            let b = c.in_ok-prepared.ensures.refused v s able in
+            let fit = c.in_ok-prepared.ensures.fit v s able in
             let free : length v.rows < v.places = omega (arith, push.pushed.0, ap length s.2, s.3) in
             let e = taken l v call h a b free in
             let mark = admitted.ensures.kind ∙ sym (ap (λ x. x.mark) fit.read) in
@@ -96,9 +96,9 @@ returns g c =
             let stands = subst (λ x. Stands l c.advance.new.self (v.entries ++ x ∷ [])) fit.read more in (
               e,
               goes_on l v call h (Shows {B = g.row.B.Denot} {C = g.row.C.Denot} l g.C.Source.rows g.C.Carrier.places) (record { book = c.args.self.now.book; carrier = c.push.new.self; state = admitted.admitted.state; progress = c.advance.new.self }) e
-                  (admitted.ensures.state, stands, push.pushed.1 ∙ ap (λ rs. rs ++ c.in-ok-prepared.prepared.row ∷ []) s.2 ∙ ap (λ r. v.rows ++ r ∷ []) fit.is, push.places ∙ s.3),
+                  (admitted.ensures.state, stands, push.pushed.1 ∙ ap (λ rs. rs ++ c.in_ok-prepared.prepared.row ∷ []) s.2 ∙ ap (λ r. v.rows ++ r ∷ []) fit.is, push.places ∙ s.3),
             )),
         tt,
       );
-      wrote = record { added = c.in-ok-prepared.prepared.row ∷ []; behind = push.pushed.1; lines = push.memory; loans = push.lenders; book = refl };
+      wrote = record { added = c.in_ok-prepared.prepared.row ∷ []; behind = push.pushed.1; lines = push.memory; loans = push.lenders; book = refl };
     }

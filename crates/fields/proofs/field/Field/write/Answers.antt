@@ -19,8 +19,8 @@ returns-in-Ok c =
     let a = c.args.self.start - 1 in
     let ok = c.in-Ok.ensures in
     record {
-      refused = told_ok f c.args.row-number (write_field f v) c.write-part.new.part ok;
-      written = written_as f (sym c.if-not-fits.ensures) c.args.row.now c.told-row (a + c.args.self.width - a) c.write-part.new.part v (omega arith) ok;
+      refused = told_ok f c.args.row_number (write_field f v) c.write_part.new.part ok;
+      written = written_as f (sym c.if-not-fits.ensures) c.args.row.now c.told-row (a + c.args.self.width - a) c.write_part.new.part v (omega arith) ok;
     }
 
 pub returns-in-Err : goal.returns-in-Err
@@ -30,6 +30,6 @@ returns-in-Err c =
     let k = a + c.args.self.width - a in
     let no = c.in-Err.ensures in
     record {
-      refused = told_err f c.args.row-number (write_field f (cell_of c.args.content)) c.in-Err.flaw (of_field c.fault-in-Err.result) no.0 c.fault-in-Err.ensures;
+      refused = told_err f c.args.row_number (write_field f (cell_of c.args.content)) c.in-Err.flaw (of_field c.fault_in-Err.result) no.0 c.fault_in-Err.ensures;
       written = ap (put_mid a k c.args.row.now) no.1 ∙ put_same a k c.args.row.now;
     }

@@ -2,8 +2,8 @@ use Rattle.std.proofs.Common.{◌-◌, ◌/◌, ◌<◌, length, sym, ap, ◌∙
 use Rattle.rows.specs.Whole.{length-rows_of, get_or-rows_of}
 use Rattle.rows.proofs.opening.OpenedSource.copy_row.Goals as goal
 
-pub copy-line-requires : goal.copy-line-requires
-copy-line-requires g c =
+pub copy_line-requires : goal.copy_line-requires
+copy_line-requires g c =
     let bytes = c.args.self.now.bytes.now in
     let n = length-rows_of g.F.Form.decoded g.F.Form.size (length bytes / g.F.Form.size) bytes in
     omega (arith, c.count.ensures)
@@ -14,4 +14,4 @@ returns g c =
     let held = length bytes / g.F.Form.size in
     let n = length-rows_of g.F.Form.decoded g.F.Form.size held bytes in
     let within : c.args.n - 1 < held = omega (arith, c.count.ensures) in
-    (omega arith, omega (arith, c.count.ensures), c.copy-line.ensures ∙ sym (get_or-rows_of g.F.Form.decoded g.F.Form.size held bytes (c.args.n - 1) _ within))
+    (omega arith, omega (arith, c.count.ensures), c.copy_line.ensures ∙ sym (get_or-rows_of g.F.Form.decoded g.F.Form.size held bytes (c.args.n - 1) _ within))

@@ -5,4 +5,4 @@ use Rattle.rows.proofs.opening.OpenedSource.count.Goals as goal
 pub returns : goal.returns
 returns g c =
     let bytes = c.args.self.now.bytes.now in
-    c.line-count.ensures ∙ sym (length-rows_of g.F.Form.decoded g.F.Form.size (length bytes / g.F.Form.size) bytes)
+    c.line_count.ensures ∙ sym (length-rows_of g.F.Form.decoded g.F.Form.size (length bytes / g.F.Form.size) bytes)

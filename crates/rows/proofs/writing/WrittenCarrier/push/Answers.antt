@@ -21,9 +21,9 @@ returns g c =
     let n = length-rows_of g.F.Form.decoded size (min w.held (length w.memory.now / size)) w.memory.now in
     let below : min w.held (length w.memory.now / size) ≡ w.held = omega arith in
     record {
-      pushed = (omega (arith, n), push_rows g.F.Form.decoded size w.held w.memory.now c.put-line.new.memory _ r c.put-line.ensures free fills (laws.back r c.told-row c.fits-row));
+      pushed = (omega (arith, n), push_rows g.F.Form.decoded size w.held w.memory.now c.put_line.new.memory _ r c.put_line.ensures free fills (laws.back r c.told-row c.fits-row));
       kept = tt;
-      memory = c.put-line.ensures ∙ ap (λ k. written w.memory.now (k * size) size (g.F.Form.encoded r)) (sym (n ∙ below));
-      places = places_kept size w.held w.memory.now c.put-line.new.memory _ c.put-line.ensures free fills;
+      memory = c.put_line.ensures ∙ ap (λ k. written w.memory.now (k * size) size (g.F.Form.encoded r)) (sym (n ∙ below));
+      places = places_kept size w.held w.memory.now c.put_line.new.memory _ c.put_line.ensures free fills;
       lenders = refl;
     }

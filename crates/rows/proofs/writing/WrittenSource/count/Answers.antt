@@ -5,4 +5,4 @@ use Rattle.rows.proofs.writing.WrittenSource.count.Goals as goal
 pub returns : goal.returns
 returns g c =
     let w = c.args.self.now in
-    c.min.ensures ∙ ap (min w.held) c.line-count.ensures ∙ sym (length-rows_of g.F.Form.decoded g.F.Form.size _ w.memory.now)
+    c.min.ensures ∙ ap (min w.held) c.line_count.ensures ∙ sym (length-rows_of g.F.Form.decoded g.F.Form.size _ w.memory.now)

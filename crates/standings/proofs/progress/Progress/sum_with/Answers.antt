@@ -7,11 +7,11 @@ pub returns-in-Some : goal.returns-in-Some
 returns-in-Some g c =
     let l = g.B.Meant.meaning in
     let e = entry_of l c.args.row.now in
-    let a = c.amount-in.result in
+    let a = c.amount_in.result in
     let v = c.in-Some.sum.value in
     record {
-      refused = λ es s good here. sum_fits l c.args.self.now es s e a v (c.amount-in.ensures good here) c.in-Some.ensures c.args.row-number c.in-Some.sum.bounded;
-      sum = λ es s good here. sum_more l c.args.self.now es s e a v (c.amount-in.ensures good here) c.in-Some.ensures;
+      refused = λ es s good here. sum_fits l c.args.self.now es s e a v (c.amount_in.ensures good here) c.in-Some.ensures c.args.row_number c.in-Some.sum.bounded;
+      sum = λ es s good here. sum_more l c.args.self.now es s e a v (c.amount_in.ensures good here) c.in-Some.ensures;
     }
 
 pub returns-in-None : goal.returns-in-None
@@ -19,6 +19,6 @@ returns-in-None g c =
     let l = g.B.Meant.meaning in
     let e = entry_of l c.args.row.now in
     record {
-      refused = λ es s good here. sum_past l c.args.self.now es s e c.amount-in.result _ (c.amount-in.ensures good here) refl c.args.row-number c.summed-start.result c.summed-start.ensures c.in-None.ensures;
+      refused = λ es s good here. sum_past l c.args.self.now es s e c.amount_in.result _ (c.amount_in.ensures good here) refl c.args.row_number c.summed_start.result c.summed_start.ensures c.in-None.ensures;
       sum = λ es s good here. tt;
     }
