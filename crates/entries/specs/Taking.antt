@@ -36,7 +36,7 @@ took (Err e) = Err (of_take e)
 -- a text is that part of the row itself, which begins at the address p: its position is the field's start
 abbrev pub TakenAt : ℕ × ℕ → Field → Taken → Type 0
 TakenAt p f (Number n) = Unit {0}
-TakenAt p f (Text position bytes) = (position ≡ f.start) × (bytes.ptr ≡ (p.0, f.start - 1 + p.1))
+TakenAt p f (Text position bytes) = (position ≡ f.start) × (bytes.ref_ptr ≡ (p.0, f.start - 1 + p.1))
 
 -- a value is there
 abbrev pub Holds : Cell → Type 0

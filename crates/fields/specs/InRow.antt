@@ -38,7 +38,7 @@ placed f row bs = take (f.start - 1) row ++ (bs ++ drop (f.start - 1 + f.width) 
 abbrev pub LiesAt : ℕ × ℕ → Content → Type 0
 LiesAt p Fixed = Unit {0}
 LiesAt p (Number n) = Unit {0}
-LiesAt p (Text t) = t.ptr ≡ p
+LiesAt p (Text t) = t.ref_ptr ≡ p
 
 -- a text that was read is the front of its field
 abbrev pub FrontOf : List ℕ → Content → Type 0

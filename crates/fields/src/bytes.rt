@@ -78,7 +78,7 @@ fn fixed_byte(content: &[u8], place: usize) -> u8
 
 // The first place whose byte is bad, or the length.
 fn first_bad<R: Rule>(rule: &R, bytes: &[u8]) -> usize
-    ensures { result ≡ first_bad (bad rule.now) 0 bytes.now }
+    ensures { result ≡ first_bad (R.bad rule.now) 0 bytes.now }
 {
     for (i, byte) in bytes.iter().enumerate() {
         if rule.is_bad(i, *byte) {
@@ -89,7 +89,7 @@ fn first_bad<R: Rule>(rule: &R, bytes: &[u8]) -> usize
 }
 
 fn check<R: Rule>(rule: &R, bytes: &[u8]) -> Result<(), Flaw>
-    ensures { MatchResult result (λ _. checked Byte (bad rule.now) bytes.now ≡ Ok bytes.now) (λ e. checked Byte (bad rule.now) bytes.now ≡ Err e) }
+    ensures { MatchResult result (λ _. checked Byte (R.bad rule.now) bytes.now ≡ Ok bytes.now) (λ e. checked Byte (R.bad rule.now) bytes.now ≡ Err e) }
 {
     let at = first_bad(rule, bytes);
     if at < bytes.len() {

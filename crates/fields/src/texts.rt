@@ -18,7 +18,7 @@ fn trim(field: &[u8]) -> &[u8]
 }
 
 pub(crate) fn read_text(field: &[u8]) -> Result<&[u8], Flaw>
-    ensures { MatchResult result (λ t. (read_text field.now ≡ Ok t.now) × (t.ptr ≡ field.entry.ref_ptr)) (λ e. read_text field.now ≡ Err e) }
+    ensures { MatchResult result (λ t. (read_text field.now ≡ Ok t.now) × (t.ref_ptr ≡ field.entry.ref_ptr)) (λ e. read_text field.now ≡ Err e) }
 {
     let text = trim(field);
     check_text(text)?;

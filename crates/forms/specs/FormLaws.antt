@@ -145,16 +145,16 @@ pub hex_forth : (l : List ℕ) → length l ≡ 1501 → ((p : ℕ) → p < 1501
 hex_forth l n good =
     sym (hex_same (unhexed l) l (length-unhexed l) n
     (λ k lt.
-    let hi = digit_of_value (slice_index l (2 * k)) (is_digit (2 * k) (omega arith)) in
-    let lo = digit_of_value (slice_index l (2 * k + 1)) (is_digit (2 * k + 1) (omega arith)) in
+    let hi = digit_of_value (slice_index l (2 * k)) (digit_here (2 * k) (omega arith)) in
+    let lo = digit_of_value (slice_index l (2 * k + 1)) (digit_here (2 * k + 1) (omega arith)) in
     let u = get_or-unhexed l k 0 lt in
     let q : get_or (unhexed l) k 0 / 16 ≡ digit_value (slice_index l (2 * k)) = omega arith in
     let m : get_or (unhexed l) k 0 % 16 ≡ digit_value (slice_index l (2 * k + 1)) = omega arith in
     (sym (ap digit q ∙ hi.0), sym (ap digit m ∙ lo.0)))
     (eqb-true (slice_index l 1500) 10 (good 1500 (omega arith))))
   where
-    is_digit : (p : ℕ) → p < 1500 → is_digit (slice_index l p) ≡ true
-    is_digit p lt = sym (cond-true (nat_lt p 1500) (is_digit (slice_index l p)) (slice_index l p == 10) (lt-ltb p 1500 lt)) ∙ good p (omega arith)
+    digit_here : (p : ℕ) → p < 1500 → is_digit (slice_index l p) ≡ true
+    digit_here p lt = sym (cond-true (nat_lt p 1500) (is_digit (slice_index l p)) (slice_index l p == 10) (lt-ltb p 1500 lt)) ∙ good p (omega arith)
 
 -- one turn of `write`
 pub digits_more : (r out : List ℕ) (i a b : ℕ) → length out ≡ 1501 → i < 750 → a ≡ digit (slice_index r i / 16) → b ≡ digit (slice_index r i % 16) → ((k : ℕ) → k < i → (slice_index out (2 * k) ≡ digit (slice_index r k / 16)) × (slice_index out (2 * k + 1) ≡ digit (slice_index r k % 16))) → (k : ℕ) → k < i + 1 → (slice_index (slice_set (slice_set out (2 * i) a) (2 * i + 1) b) (2 * k) ≡ digit (slice_index r k / 16)) × (slice_index (slice_set (slice_set out (2 * i) a) (2 * i + 1) b) (2 * k + 1) ≡ digit (slice_index r k % 16))

@@ -15,7 +15,7 @@ returns-in_err-print g c =
     let l = g.B.Meant.meaning in
     let h = handed_of c.args.entry in
     let e = c.in_err-print.field-0.0 in
-    let p = err_from_is_err_and c.from-residual.result c.from-residual.ensures.1 in
+    let p = err_from_is_err_and c.from_residual.result c.from_residual.ensures.1 in
     rw p.1 (record {
       refused = λ suited. ap Some (ap of_draft p.2 ∙ draft_tells e)
           ∙ first_stops (fields11 l (meant h)) (conditions15 l (meant h)) (at_fields l g.B.Meant.lawful h suited c.args.row_number (Some (of_entry e)) (worked_of unworked) nothing_fits c.in_err-print.ensures.refused);
@@ -26,7 +26,7 @@ pub returns-in_err-judge : goal.returns-in_err-judge
 returns-in_err-judge g c =
     let l = g.B.Meant.meaning in
     let h = handed_of c.args.entry in
-    let p = err_from_is_err_and c.from-residual-in_err-judge.result c.from-residual-in_err-judge.ensures.1 in
+    let p = err_from_is_err_and c.from_residual-in_err-judge.result c.from_residual-in_err-judge.ensures.1 in
     rw (p.1, p.2) (record {
       refused = λ suited.
           second_stops (fields11 l (meant h)) (conditions15 l (meant h))

@@ -15,7 +15,7 @@ content_for-content-requires c =
 
 pub returns-in_err-write : goal.returns-in_err-write
 returns-in_err-write c =
-    let p = err_from_is_err_and c.from-residual.result c.from-residual.ensures.1 in
+    let p = err_from_is_err_and c.from_residual.result c.from_residual.ensures.1 in
     let told = printing_refused c.args.entry.pool.now (worked_of c.args.worked) c.args.fields.now c.args.entry.values.now c.loop-field.field-index c.loop-field.next c.loop-field.row c.loop-field.invariant _ c.loop-field-test.true (cell_of c.content_for-content.result) c.content_for-content.ensures c.args.row_number _ c.in_err-write.ensures.refused in
     rw (p.1, p.2) (record { refused = told; printed = tt })
 

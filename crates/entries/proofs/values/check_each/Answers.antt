@@ -15,7 +15,7 @@ bounds-values-next c = asking_room c.args.fields.now c.args.values.now c.args.po
 
 pub returns-in_err-check_value : goal.returns-in_err-check_value
 returns-in_err-check_value c =
-    let p = err_from_is_err_and c.from-residual.result c.from-residual.ensures.1 in
+    let p = err_from_is_err_and c.from_residual.result c.from_residual.ensures.1 in
     rw (p.1, p.2) (asking_refused c.args.fields.now c.args.values.now c.args.pool.now c.loop-field.field-index c.loop-field.next c.loop-field.invariant (asks_for c.in-Entered.asked) (ask_one c.args.fields.now c.loop-field.field-index _ c.loop-field-test.true c.in-Entered.asked c.in-Entered.ensures) _ _ c.in_err-check_value.ensures)
 
 pub loop-field-preserved : goal.loop-field-preserved

@@ -17,4 +17,4 @@ returns c =
     let n = c.loop-n.n in
     let w : (n ≡ 0) ⊎ ((0 < n) × (get_or bs (n - 1) 0 ≡ 32 → ⊥)) = elim c.loop-n-test.branch [ then-loop-n-test+else-field-n-eq32 w ↦ inr (w.loop-n-test.true, w.if-field-n-eq32.false) | else-loop-n-test w ↦ inl (omega arith) ] in
     let e : text_len bs ≡ n - 0 = stop bs n c.loop-n.invariant.0 c.loop-n.invariant.1 w ∙ omega arith in
-    record { bytes = ap (λ k. take k bs) (sym e); place = ap (λ o. (c.args.field.ptr.0, o)) (zero-add c.args.field.ptr.1) }
+    record { bytes = ap (λ k. take k bs) (sym e); place = ap (λ o. (c.args.field.ref_ptr.0, o)) (zero-add c.args.field.ref_ptr.1) }

@@ -22,14 +22,14 @@ returns-in_err-take_row g c =
     let less : i < length rows = omega (arith, copied.1) in
     let back : i + 1 - 1 ≡ i = omega arith in
     let is = copied.2 ∙ ap (λ k. get_or rows k []) back in
-    let p = err_from_is_err_and c.from-residual.result c.from-residual.ensures.1 in
+    let p = err_from_is_err_and c.from_residual.result c.from_residual.ensures.1 in
     let stop = checked_stops l rows i less _ is _ (c.in_err-take_row.ensures (entries_to l rows i) inv.0) in
-    let answer : told c.from-residual.result ≡ checked l rows = ap told p.1 ∙ ap (λ f. Err (of_file f)) p.2 ∙ sym stop ∙ inv.1 in
+    let answer : told c.from_residual.result ≡ checked l rows = ap told p.1 ∙ ap (λ f. Err (of_file f)) p.2 ∙ sym stop ∙ inv.1 in
     record {
       answer = answer;
       law = file_law l g.B.Meant.lawful;
-      backed = backed l g.B.Meant.lawful rows (g.S.Source.whole c.args.source.now) c.from-residual.result answer;
-      passes = passes l g.B.Meant.lawful rows (g.S.Source.whole c.args.source.now) c.from-residual.result answer;
+      backed = backed l g.B.Meant.lawful rows (g.S.Source.whole c.args.source.now) c.from_residual.result answer;
+      passes = passes l g.B.Meant.lawful rows (g.S.Source.whole c.args.source.now) c.from_residual.result answer;
     }
 
 pub loop-i-preserved : goal.loop-i-preserved

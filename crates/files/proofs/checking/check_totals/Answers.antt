@@ -11,7 +11,7 @@ returns-in_err-check_worked g c =
     let l = g.B.Meant.meaning in
     let row = c.args.row.now in
     let n = c.args.row_number in
-    let p = err_from_is_err_and c.from-residual.result c.from-residual.ensures.1 in
+    let p = err_from_is_err_and c.from_residual.result c.from_residual.ensures.1 in
     rw (p.1, p.2) (λ es s next sum.
     let right = c.worked-worked.ensures.all es (entry_of l row) s next.number next.marked sum in
     here n _ _ _ (c.in_err-check_worked.ensures ∙ ap (in_row n) (wrong_held l g.B.Meant.lawful es row next.good c.args.kind.mark next.marked _ c.fields.ensures 24 is_total c.worked-worked.result (λ k _. right k))))

@@ -9,14 +9,14 @@ pub returns-in_err-number : goal.returns-in_err-number
 returns-in_err-number g c =
     let l = g.B.Meant.meaning in
     let row = c.args.row.now in
-    let p = err_from_is_err_and c.from-residual.result c.from-residual.ensures.1 in
+    let p = err_from_is_err_and c.from_residual.result c.from_residual.ensures.1 in
     rw (p.1, p.2) (λ es s. sym (all_here (length es + 1) _ (read_checks l es row) (work_checks l es row) (c.in_err-number.ensures.refused es s)))
 
 pub returns-in_err-sum : goal.returns-in_err-sum
 returns-in_err-sum g c =
     let l = g.B.Meant.meaning in
     let row = c.args.row.now in
-    let p = err_from_is_err_and c.from-residual-in_err-sum.result c.from-residual-in_err-sum.ensures.1 in
+    let p = err_from_is_err_and c.from_residual-in_err-sum.result c.from_residual-in_err-sum.ensures.1 in
     rw (p.1, p.2) (λ es s.
     let next = c.in_ok-number.ensures.found es s in
     sym (skip_all (length es + 1) _ (read_checks l es row) (work_checks l es row) (c.in_ok-number.ensures.refused es s)

@@ -7,7 +7,7 @@ use Rattle.records.proofs.judging.check_fields.Goals as goal
 
 pub returns-in_err-read : goal.returns-in_err-read
 returns-in_err-read c =
-    let p = err_from_is_err_and c.from-residual.result c.from-residual.ensures.1 in
+    let p = err_from_is_err_and c.from_residual.result c.from_residual.ensures.1 in
     let xs = c.args.fields.now in
     let row = c.args.row.now in
     let n = c.args.row_number in

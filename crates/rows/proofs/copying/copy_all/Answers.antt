@@ -19,7 +19,7 @@ returns-in_err-push g c =
     let len : length mid ≡ length start + c.loop-i.i = held_now start mid from c.loop-i.i (omega (arith, c.count-count.ensures)) inv.0 in
     let free : c.loop-i.i ≡ places - length start = omega (arith, inv.2, inv.4, full.1) in
     let n : c.loop-i.i ≡ length (g.C.Source.rows c.push.new.self) - length start = omega (arith, ap length same) in
-    let p = err_from_is_err_and c.from-residual-in_err-push.result c.from-residual-in_err-push.ensures.1 in
+    let p = err_from_is_err_and c.from_residual-in_err-push.result c.from_residual-in_err-push.ensures.1 in
     rw (p.1, p.2) (record {
       moved = (full.0 ∙ ap (λ k. refusal 2 k 0) inv.2, omega (arith, c.count-count.ensures), same ∙ inv.0 ∙ ap (λ k. start ++ take k from) free);
       memory = h.memory ∙ inv.1 ∙ ap (λ k. put_all g.C.Carrier.size g.C.Carrier.line (g.C.Carrier.memory c.args.to.now) (length start) (take k from)) n;

@@ -16,7 +16,7 @@ returns-in-Err g c =
 pub returns-in_err-check : goal.returns-in_err-check
 returns-in_err-check g c =
     let kept = c.in-Ok.ensures.opened in
-    let p = err_from_is_err_and c.from-residual.result c.from-residual.ensures.1 in
+    let p = err_from_is_err_and c.from_residual.result c.from_residual.ensures.1 in
     let same = ap (λ bs. in_names (checked g.B.Meant.meaning (opened unhexed 1501 bs))) kept.0 in
     ap told p.1 ∙ ap (λ f. told (Err f)) p.2 ∙ rw (form_kept c.args.lines.now kept.1) (ap in_names c.in_err-check.ensures.answer ∙ same)
 

@@ -18,7 +18,7 @@ returns-in_err-allow g c =
     let m = c.args.entry.mark in
     let call = call_of c.args.call in
     let d = c.args.self.now in
-    let p = err_from_is_err_and c.from-residual.result c.from-residual.ensures.1 in
+    let p = err_from_is_err_and c.from_residual.result c.from_residual.ensures.1 in
     rw (p.1, p.2) (record {
       refused = λ v s.
           let k = length v.entries + 1 in
@@ -35,7 +35,7 @@ returns-in_err-row_number g c =
     let m = c.args.entry.mark in
     let call = call_of c.args.call in
     let d = c.args.self.now in
-    let p = err_from_is_err_and c.from-residual-in_err-row_number.result c.from-residual-in_err-row_number.ensures.1 in
+    let p = err_from_is_err_and c.from_residual-in_err-row_number.result c.from_residual-in_err-row_number.ensures.1 in
     rw (p.1, p.2) (record {
       refused = λ v s.
           let k = length v.entries + 1 in
@@ -52,7 +52,7 @@ returns-in_err-kind g c =
     let m = c.args.entry.mark in
     let call = call_of c.args.call in
     let d = c.args.self.now in
-    let p = err_from_is_err_and c.from-residual-in_err-kind.result c.from-residual-in_err-kind.ensures.1 in
+    let p = err_from_is_err_and c.from_residual-in_err-kind.result c.from_residual-in_err-kind.ensures.1 in
     rw (p.1, p.2) (record {
       refused = λ v s.
           let k = length v.entries + 1 in
@@ -71,7 +71,7 @@ returns-in_err-check_values g c =
     let call = call_of c.args.call in
     let d = c.args.self.now in
     let found = c.in_ok-kind.ensures.found in
-    let p = err_from_is_err_and c.from-residual-in_err-check_values.result c.from-residual-in_err-check_values.ensures.1 in
+    let p = err_from_is_err_and c.from_residual-in_err-check_values.result c.from_residual-in_err-check_values.ensures.1 in
     rw (p.1, p.2) (record {
       refused = λ v s.
           let k = length v.entries + 1 in
@@ -90,7 +90,7 @@ returns-in_err-state g c =
     let call = call_of c.args.call in
     let d = c.args.self.now in
     let found = c.in_ok-kind.ensures.found in
-    let p = err_from_is_err_and c.from-residual-in_err-state.result c.from-residual-in_err-state.ensures.1 in
+    let p = err_from_is_err_and c.from_residual-in_err-state.result c.from_residual-in_err-state.ensures.1 in
     rw (p.1, p.2) (record {
       refused = λ v s.
           let k = length v.entries + 1 in
@@ -109,7 +109,7 @@ returns-in_err-place g c =
     let call = call_of c.args.call in
     let d = c.args.self.now in
     let found = c.in_ok-kind.ensures.found in
-    let p = err_from_is_err_and c.from-residual-in_err-place.result c.from-residual-in_err-place.ensures.1 in
+    let p = err_from_is_err_and c.from_residual-in_err-place.result c.from_residual-in_err-place.ensures.1 in
     rw (p.1, p.2) (record {
       refused = λ v s.
           let k = length v.entries + 1 in

@@ -18,7 +18,7 @@ returns-in_err-admitted g c =
     let h = handed_of c.args.entry in
     let call = call_of c.args.call in
     let x = of_draft c.in_err-admitted.field-0.0 in
-    let p = err_from_is_err_and c.from-residual.result c.from-residual.ensures.1 in
+    let p = err_from_is_err_and c.from_residual.result c.from_residual.ensures.1 in
     rw (p.1, p.2) (record {
       told = (
         (λ v s.
@@ -36,7 +36,7 @@ returns-in_err-prepared g c =
     let call = call_of c.args.call in
     let admitted = c.in_ok-admitted in
     let x = of_draft c.in_err-prepared.field-0.0 in
-    let p = err_from_is_err_and c.from-residual-in_err-prepared.result c.from-residual-in_err-prepared.ensures.1 in
+    let p = err_from_is_err_and c.from_residual-in_err-prepared.result c.from_residual-in_err-prepared.ensures.1 in
     rw (p.1, p.2) (record {
       told = (
         (λ v s.
@@ -57,7 +57,7 @@ returns-in_err-push g c =
     let d = c.args.self.now in
     let admitted = c.in_ok-admitted in
     let push = c.in_err-push.ensures in
-    let p = err_from_is_err_and c.from-residual-in_err-push.result c.from-residual-in_err-push.ensures.1 in
+    let p = err_from_is_err_and c.from_residual-in_err-push.result c.from_residual-in_err-push.ensures.1 in
     rw (p.1, p.2) (record {
       told = (
         (λ v s.

@@ -22,7 +22,7 @@ returns-in-Ok c =
     let row = c.args.row.now in
     let a = c.args.self.start - 1 in
     let ok = c.in-Ok.ensures in
-    let held = read_as f (sym c.if-not-fits.ensures) row c.told-row c.args.row.ptr (a + c.args.self.width - a) c.in-Ok.content (omega arith) ok.0 ok.1 in
+    let held = read_as f (sym c.if-not-fits.ensures) row c.told-row c.args.row.ref_ptr (a + c.args.self.width - a) c.in-Ok.content (omega arith) ok.0 ok.1 in
     record { refused = told_ok f c.args.row_number (read_field f (part f row)) (cell_of c.in-Ok.content) held.read; held = held }
 
 pub returns-in-Err : goal.returns-in-Err
@@ -31,4 +31,4 @@ returns-in-Err c =
     let row = c.args.row.now in
     let a = c.args.self.start - 1 in
     let no = read_err f row (a + c.args.self.width - a) c.in-Err.flaw (omega arith) c.in-Err.ensures in
-    record { refused = told_err f c.args.row_number (read_field f (part f row)) c.in-Err.flaw (of_field c.fault_in-Err.result) no c.fault_in-Err.ensures; held = tt }
+    record { refused = told_err f c.args.row_number (read_field f (part f row)) c.in-Err.flaw (of_field c.fault-in-Err.result) no c.fault-in-Err.ensures; held = tt }

@@ -30,6 +30,6 @@ returns-in-Err c =
     let k = a + c.args.self.width - a in
     let no = c.in-Err.ensures in
     record {
-      refused = told_err f c.args.row_number (write_field f (cell_of c.args.content)) c.in-Err.flaw (of_field c.fault_in-Err.result) no.0 c.fault_in-Err.ensures;
+      refused = told_err f c.args.row_number (write_field f (cell_of c.args.content)) c.in-Err.flaw (of_field c.fault-in-Err.result) no.0 c.fault-in-Err.ensures;
       written = ap (put_mid a k c.args.row.now) no.1 ∙ put_same a k c.args.row.now;
     }
