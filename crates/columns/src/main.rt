@@ -7,9 +7,11 @@ mod words;
 
 use crate::tables::put_table;
 use crate::words::letter_in;
+use anyhow::anyhow;
 use books::letters::Letter;
 use std::env;
 use std::io::Write;
+use std::process::ExitCode;
 
 const USAGE: &str = "usage: columns LETTER.. (P, Q or S)";
 
@@ -19,11 +21,11 @@ fn letters(rt: &HostRuntime) -> anyhow::Result<Vec<Letter>> {
     for word in env::args(rt)?.skip(1) {
         match letter_in(word.as_bytes()) {
             Some(letter) => letters.push(letter)?,
-            None => return Err(USAGE.into()),
+            None => return Err(anyhow!(USAGE)),
         }
     }
     if letters.is_empty() {
-        return Err(USAGE.into());
+        return Err(anyhow!(USAGE));
     }
     Ok(letters)
 }
@@ -38,10 +40,12 @@ fn run(rt: &HostRuntime) -> anyhow::Result<()> {
     Ok(())
 }
 
-fn main(rt: HostRuntime) -> anyhow::Result<()> {
-    let done = run(&rt);
-    if let Err(fault) = &done {
-        eprintln!(rt; "{fault}")?;
+fn main(rt: HostRuntime) -> ExitCode {
+    match run(&rt) {
+        Ok(()) => ExitCode::SUCCESS,
+        Err(fault) => {
+            let _ = eprintln!(rt; "{fault}");
+            ExitCode::FAILURE
+        }
     }
-    done
 }

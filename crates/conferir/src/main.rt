@@ -6,6 +6,7 @@ mod faults;
 
 use faults::ConferirFault;
 use std::io::{Read, Write};
+use std::process::ExitCode;
 use verdicts::lines::confer;
 use verdicts::verdicts::LARGEST_INPUT;
 
@@ -25,10 +26,12 @@ fn run(rt: &HostRuntime) -> Result<(), ConferirFault> {
     Ok(())
 }
 
-fn main(rt: HostRuntime) -> Result<(), ConferirFault> {
-    let done = run(&rt);
-    if let Err(fault) = &done {
-        eprintln!(rt; "conferir: {fault}")?;
+fn main(rt: HostRuntime) -> ExitCode {
+    match run(&rt) {
+        Ok(()) => ExitCode::SUCCESS,
+        Err(fault) => {
+            let _ = eprintln!(rt; "conferir: {fault}");
+            ExitCode::FAILURE
+        }
     }
-    done
 }

@@ -7,12 +7,14 @@ mod lines;
 mod meanings;
 mod view;
 
+use anyhow::anyhow;
 use books::letters::Letter;
 use input::{InputFault, row_in};
 use outgoing_receipts::OutgoingReceipts;
 use recurring_charges::RecurringCharges;
 use returned_receipts::ReturnedReceipts;
 use std::io::{Read, Write};
+use std::process::ExitCode;
 use std::{env, fs};
 use view::put_row;
 
@@ -24,7 +26,7 @@ fn letter_in(word: &[u8]) -> anyhow::Result<Letter> {
             return Ok(letter);
         }
     }
-    Err(USAGE.into())
+    Err(anyhow!(USAGE))
 }
 
 fn show(rt: &HostRuntime, letter: Letter, bytes: &[u8]) -> anyhow::Result<()> {
@@ -34,11 +36,11 @@ fn show(rt: &HostRuntime, letter: Letter, bytes: &[u8]) -> anyhow::Result<()> {
         Err(InputFault::Form(fault)) => {
             let at = fault.refusal().first;
             let text = format!(in heap; "the input breaks the hexadecimal form at byte {at}")?;
-            return Err(text.into());
+            return Err(anyhow!(text));
         }
         Err(InputFault::Rows(count)) => {
             let text = format!(in heap; "one row is wanted, and there are {count}")?;
-            return Err(text.into());
+            return Err(anyhow!(text));
         }
     };
     let mut out = Vec::new(heap);
@@ -70,13 +72,15 @@ fn run(rt: &HostRuntime) -> anyhow::Result<()> {
         rt.stdin().read_to_end(&mut bytes)?;
         return show(rt, letter, bytes.as_slice());
     }
-    if shows { Ok(()) } else { Err(USAGE.into()) }
+    if shows { Ok(()) } else { Err(anyhow!(USAGE)) }
 }
 
-fn main(rt: HostRuntime) -> anyhow::Result<()> {
-    let done = run(&rt);
-    if let Err(fault) = &done {
-        eprintln!(rt; "row_viewer: {fault}")?;
+fn main(rt: HostRuntime) -> ExitCode {
+    match run(&rt) {
+        Ok(()) => ExitCode::SUCCESS,
+        Err(fault) => {
+            let _ = eprintln!(rt; "row_viewer: {fault}");
+            ExitCode::FAILURE
+        }
     }
-    done
 }

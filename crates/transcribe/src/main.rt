@@ -10,17 +10,18 @@ use faults::TranscribeFault;
 use names::FormName;
 use std::env;
 use std::io::{Read, Write};
+use std::process::ExitCode;
 use transcription::transcribe;
 
 const USAGE: &str = "usage: transcribe FROM TO, each one of flat, lined, hexadecimal";
 
 fn form_argument(word: Option<String>) -> anyhow::Result<FormName> {
     let Some(word) = word else {
-        return Err(USAGE.into());
+        return Err(anyhow!(USAGE));
     };
     match FormName::named(word.as_str()) {
         Some(form) => Ok(form),
-        None => Err(USAGE.into()),
+        None => Err(anyhow!(USAGE)),
     }
 }
 
@@ -34,7 +35,7 @@ fn explain(rt: &HostRuntime, from: FormName, fault: TranscribeFault) -> anyhow::
             let text = format!(in rt.alloc();
                 "refusal {number} at byte {at}: the input breaks the {form} form there"
             )?;
-            Err(text.into())
+            Err(anyhow!(text))
         }
         TranscribeFault::Memory => Err(anyhow!("not enough memory for the output")),
     }
@@ -46,7 +47,7 @@ fn run(rt: &HostRuntime) -> anyhow::Result<()> {
     let from = form_argument(words.next())?;
     let to = form_argument(words.next())?;
     if words.next().is_some() {
-        return Err(USAGE.into());
+        return Err(anyhow!(USAGE));
     }
     let mut input = Vec::new(rt.alloc());
     rt.stdin().read_to_end(&mut input)?;
@@ -63,12 +64,12 @@ fn run(rt: &HostRuntime) -> anyhow::Result<()> {
     }
 }
 
-fn main(rt: HostRuntime) -> anyhow::Result<()> {
+fn main(rt: HostRuntime) -> ExitCode {
     match run(&rt) {
-        Ok(()) => Ok(()),
-        Err(error) => {
-            eprintln!(rt; "transcribe: {error}")?;
-            Err(error)
+        Ok(()) => ExitCode::SUCCESS,
+        Err(fault) => {
+            let _ = eprintln!(rt; "transcribe: {fault}");
+            ExitCode::FAILURE
         }
     }
 }

@@ -18,7 +18,7 @@ returns-in_err-print g c =
     let p = err_from_is_err_and c.from_residual.result c.from_residual.ensures.1 in
     rw p.1 (record {
       refused = λ suited. ap Some (ap of_draft p.2 ∙ draft_tells e)
-          ∙ first_stops (fields11 l (meant h)) (conditions15 l (meant h)) (at_fields l g.B.Meant.lawful h suited c.args.row_number (Some (of_entry e)) (worked_of unworked) nothing_fits c.in_err-print.ensures.refused);
+          ∙ first_stops c.args.row_number (fields11 l (meant h)) (conditions15 l (meant h)) (at_fields l g.B.Meant.lawful h suited c.args.row_number (Some (of_entry e)) (worked_of unworked) nothing_fits c.in_err-print.ensures.refused);
       drawn = λ suited. tt;
     })
 
@@ -29,7 +29,7 @@ returns-in_err-judge g c =
     let p = err_from_is_err_and c.from_residual-in_err-judge.result c.from_residual-in_err-judge.ensures.1 in
     rw (p.1, p.2) (record {
       refused = λ suited.
-          second_stops (fields11 l (meant h)) (conditions15 l (meant h))
+          second_stops c.args.row_number (fields11 l (meant h)) (conditions15 l (meant h))
           (at_fields l g.B.Meant.lawful h suited c.args.row_number None (worked_of unworked) nothing_fits c.in_ok-print.ensures.refused)
           (at_conditions l g.B.Meant.lawful h suited _ c.print.new.row c.in_ok-print.ensures.printed c.args.row_number (Some (of_row c.in_err-judge.field-0.0)) c.in_err-judge.ensures.refused);
       drawn = λ suited. tt;
@@ -43,7 +43,7 @@ returns g c =
     let law = g.B.Meant.lawful in
     record {
       refused = λ suited.
-          both_pass (fields11 l (meant h)) (conditions15 l (meant h))
+          both_pass n (fields11 l (meant h)) (conditions15 l (meant h))
           (at_fields l law h suited n None (worked_of unworked) nothing_fits c.in_ok-print.ensures.refused)
           (at_conditions l law h suited _ c.print.new.row c.in_ok-print.ensures.printed n None c.in_ok-judge.ensures.refused);
       drawn = λ suited.
