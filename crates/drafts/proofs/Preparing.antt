@@ -11,12 +11,14 @@ use Rattle.records.specs.declared.entries.Worked.{Worked}
 use Rattle.records.specs.Row.{Entry, origins_of, mark10, values31, fields11, conditions15, print_row, entry_of, mark_of, row_faults}
 use Rattle.records.specs.Entries.{Handed, meant, handed31, value_fault}
 use Rattle.records.specs.Worked.{worked_of, reckoned_by}
-use Rattle.records.proofs.Options.{two_none, in_none, no_fault, unless_true}
+use Rattle.records.proofs.Options.{in_none, no_fault, unless_true, ok_fault}
 use Rattle.records.proofs.Law.{Printed, printed}
 use Rattle.legality.specs.Before.{reckon, row_of, sum_of}
+use Rattle.legality.specs.Checks.{owner22, sum26}
+use Rattle.standings.specs.Standing.{Good}
 use Rattle.legality.proofs.Reckoning.{reckon_fits}
 use Rattle.lives.specs.Draft.{Moment}
-use Rattle.drafts.specs.Standing.{among, Suited, Ready, Drawn, Fit}
+use Rattle.drafts.specs.Standing.{Ready, Fit}
 use Rattle.lives.proofs.Handing.{means}
 use Rattle.drafts.proofs.Rows.{last, prints, judged_as, same_worked}
 
@@ -33,55 +35,53 @@ nothing_fits number_of_owner w h = some_digit w
 nothing_fits total w h = some_digit w
 nothing_fits count w h = some_digit w
 
-module _ (l : Layout) (law : Lawful l) (h : Handed) (suited : Suited l h) where
+module _ (l : Layout) (law : Lawful l) (v : Moment) (h : Handed) (n m : ℕ) (ready : Ready l v h n m) where
   valued : values31 l (meant h) ≡ None
-  valued = means l h suited.valued
+  valued = means l h ready.valued
 
   -- printing refuses only the fields
-  pub at_fields : (n : ℕ) (o : Option Refusal) (r : Working → ℕ) → ((k : Working) (w : ℕ) → WorkedWide k w → r k < 10 ^ w) →
-      o ≡ first_some (in_row n (mark10 l h.mark) ∷ (value_fault (handed31 l h) ∷ (in_row n (fault_in (print_row l (meant h) (reckoned_by r (origins_of l h.mark)))) ∷ []))) → o ≡ in_row n (fields11 l (meant h))
-  at_fields n o r small e =
-      e ∙ last _ _ _ (in_none n _ suited.known) (ap value_fault suited.valued) ∙ ap (in_row n) (prints l law (meant h) suited.known valued r small)
+  pub at_fields : (o : Option Refusal) (r : Working → ℕ) → ((k : Working) (w : ℕ) → WorkedWide k w → r k < 10 ^ w) →
+      o ≡ first_some (in_row n (mark10 l h.mark) ∷ (value_fault (handed31 l h) ∷ (in_row n (fault_in (print_row l (meant h) (reckoned_by r (origins_of l h.mark)))) ∷ []))) → o ≡ in_row (length v.entries + 1) (fields11 l (meant h))
+  at_fields o r small e =
+      e ∙ last _ _ _ (in_none n _ ready.known) (ap value_fault ready.valued) ∙ ap (in_row n) (prints l law (meant h) ready.known valued r small) ∙ ap (λ k. in_row k (fields11 l (meant h))) ready.next
 
-  row_printed : (ws row : List ℕ) → print_row l (meant h) ws ≡ Ok row → Printed l (meant h) ws row
-  row_printed ws row p = printed l law (meant h) ws row suited.known p
+  pub row_printed : (ws row : List ℕ) → print_row l (meant h) ws ≡ Ok row → Printed l (meant h) ws row
+  row_printed ws row p = printed l law (meant h) ws row ready.known p
 
-  -- judging refuses a printed row only for its conditions
-  pub at_conditions : (ws row : List ℕ) → print_row l (meant h) ws ≡ Ok row → (n : ℕ) (o : Option Refusal) → o ≡ in_row n (first_some (row_faults l row)) → o ≡ in_row n (conditions15 l (meant h))
-  at_conditions ws row p n o e = e ∙ ap (in_row n) (judged_as l law (meant h) suited.known valued ws row (row_printed ws row p))
+  module _ (ws row : List ℕ) (is : Printed l (meant h) ws row) where
+    pub at_conditions : (o : Option Refusal) → o ≡ in_row n (first_some (row_faults l row)) → o ≡ in_row (length v.entries + 1) (conditions15 l (meant h))
+    at_conditions o e = e ∙ ap (in_row n) (judged_as l law (meant h) ready.known valued ws row is) ∙ ap (λ k. in_row k (conditions15 l (meant h))) ready.next
 
-  pub drawn : (ws row : List ℕ) → print_row l (meant h) ws ≡ Ok row → conditions15 l (meant h) ≡ None → Drawn l h row
-  drawn ws row p keeps =
-      let is = row_printed ws row p in
-      record { good = record { long = is.long; sound = judged_as l law (meant h) suited.known valued ws row is ∙ keeps }; read = is.entry }
+    pub good_row : None ≡ in_row (length v.entries + 1) (conditions15 l (meant h)) → Good l row
+    good_row e = record { long = is.long; sound = judged_as l law (meant h) ready.known valued ws row is ∙ no_fault _ _ (sym e) }
 
-module _ (l : Layout) (law : Lawful l) (v : Moment) (h : Handed) (n m : ℕ) (ready : Ready l v h n m) where
-  -- what the entries before say of a row that is read as the entry
-  pub at_among : (row : List ℕ) → Drawn l h row → (o : Option Refusal) → o ≡ in_row n (first_some (among l v.entries (entry_of l row))) → o ≡ in_row n (first_some (among l v.entries (meant h)))
-  at_among row d o e = e ∙ ap (λ x. in_row n (first_some (among l v.entries x))) d.read
+    pub marked : m ≡ mark_of row
+    marked = ready.marked ∙ sym is.mark
 
-  pub marked : (row : List ℕ) → Drawn l h row → m ≡ mark_of row
-  marked row d = ready.marked ∙ sym (ap (λ e. e.mark) d.read)
+    pub at_owner : (o : Option Refusal) → o ≡ in_row n (owner22 l v.entries (entry_of l row)) → o ≡ in_row (length v.entries + 1) (owner22 l v.entries (meant h))
+    at_owner o e = e ∙ ap (λ x. in_row n (owner22 l v.entries x)) is.entry ∙ ap (λ k. in_row k (owner22 l v.entries (meant h))) ready.next
 
-  pub summed : (row : List ℕ) → Drawn l h row → (sum : ℕ) → sum ≡ sum_of l (v.entries ++ entry_of l row ∷ []) → sum ≡ sum_of l (v.entries ++ meant h ∷ [])
-  summed row d sum e = e ∙ ap (λ x. sum_of l (v.entries ++ x ∷ [])) d.read
+    pub at_sum : (o : Option Refusal) → o ≡ in_row n (sum26 l v.entries (entry_of l row)) → o ≡ in_row (length v.entries + 1) (sum26 l v.entries (meant h))
+    at_sum o e = e ∙ ap (λ x. in_row n (sum26 l v.entries x)) is.entry ∙ ap (λ k. in_row k (sum26 l v.entries (meant h))) ready.next
+
+    pub summed : (sum : ℕ) → sum ≡ sum_of l (v.entries ++ entry_of l row ∷ []) → sum ≡ sum_of l (v.entries ++ meant h ∷ [])
+    summed sum e = e ∙ ap (λ x. sum_of l (v.entries ++ x ∷ [])) is.entry
 
   -- the worked numbers of the entry's place fit their fields
-  pub small : None ≡ in_row n (first_some (among l v.entries (meant h))) → (r : Working → ℕ) → ((k : Working) → r k ≡ reckon l v.entries (meant h) k) → (k : Working) (w : ℕ) → WorkedWide k w → r k < 10 ^ w
-  small none r same k w wide =
+  pub small : None ≡ in_row (length v.entries + 1) (sum26 l v.entries (meant h)) → (r : Working → ℕ) → ((k : Working) → r k ≡ reckon l v.entries (meant h) k) → (k : Working) (w : ℕ) → WorkedWide k w → r k < 10 ^ w
+  small sum r same k w wide =
       let few : length v.entries + 1 ≤ 65535 = subst (λ x. x ≤ 65535) ready.next ready.few in
-      let passes = two_none _ _ (no_fault _ _ (sym none)) in
-      let below : sum_of l (v.entries ++ meant h ∷ []) < 10 ^ 17 = ltb-true _ (10 ^ 17) (unless_true _ _ passes.1) in
+      let below : sum_of l (v.entries ++ meant h ∷ []) < 10 ^ 17 = ltb-true _ (10 ^ 17) (unless_true _ _ (no_fault _ _ (sym sum))) in
       subst (λ x. x < 10 ^ w) (sym (same k)) (reckon_fits l v.entries (meant h) few below k w wide)
 
   -- the row with the worked numbers of its place is the entry's
   pub fit_row : (r : Working → ℕ) → ((k : Working) → r k ≡ reckon l v.entries (meant h) k) → (row : List ℕ) → print_row l (meant h) (reckoned_by r (origins_of l h.mark)) ≡ Ok row →
-      conditions15 l (meant h) ≡ None → (sum : ℕ) → sum ≡ sum_of l (v.entries ++ meant h ∷ []) → Fit l v h row sum
+      None ≡ in_row (length v.entries + 1) (conditions15 l (meant h)) → (sum : ℕ) → sum ≡ sum_of l (v.entries ++ meant h ∷ []) → Fit l v h row sum
   fit_row r same row p keeps sum sums =
-      let d = drawn l law h ready.suited _ row p keeps in
+      let is = row_printed _ row p in
       record {
         is = sym (ap (λ ws. ok_or [] (print_row l (meant h) ws)) (sym (same_worked r (reckon l v.entries (meant h)) (origins_of l h.mark) same)) ∙ ap (ok_or []) p);
-        good = d.good;
-        read = d.read;
+        good = good_row _ row is keeps;
+        read = is.entry;
         sums = sums;
       }

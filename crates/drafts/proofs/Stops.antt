@@ -26,18 +26,3 @@ second_passes false b f e h = some_none (sym h)
 pub second_fails : {n k : ℕ} (a b : Bool) (f : Fault) {x : Refusal} → a ≡ true → n ≡ k → Some x ≡ in_row n (unless (a && b) f) → Some x ≡ in_row k (unless b f)
 second_fails true b f t e h = fails (unless b f) e h
 second_fails false b f t e h = let z : ◌≡◌ {A = ℕ} 0 1 = cc in absurd (omega arith)
-
--- two checks, one after the other
-pub first_stops : (n : ℕ) (a b : Option Fault) {x : Refusal} → Some x ≡ in_row n a → Some x ≡ in_row n (first_some (a ∷ (b ∷ [])))
-first_stops n None b e = some_none e
-first_stops n (Some f) b e = e
-
-pub second_stops : (n : ℕ) (a b : Option Fault) {x : Refusal} → None ≡ in_row n a → Some x ≡ in_row n b → Some x ≡ in_row n (first_some (a ∷ (b ∷ [])))
-second_stops n None None p e = e
-second_stops n None (Some f) p e = e
-second_stops n (Some f) b p e = some_none (sym p)
-
-pub both_pass : (n : ℕ) (a b : Option Fault) → None ≡ in_row n a → None ≡ in_row n b → None ≡ in_row n (first_some (a ∷ (b ∷ [])))
-both_pass n None None p q = refl
-both_pass n None (Some f) p q = some_none (sym q)
-both_pass n (Some f) b p q = some_none (sym p)

@@ -15,7 +15,7 @@ use Rattle.drafts.specs.Standing.{admission, contents, Ready}
 -- the same checks, nested and one after the other
 flat : (n : ℕ) (a : Option Refusal) (b d : Option Fault) (u : Option Refusal) (q o g f k w s : Option Fault) (t : Option Refusal) →
     first_some (a ∷ (first_some (in_row n (first_some (b ∷ (d ∷ []))) ∷ (u ∷ (in_row n (first_some (q ∷ (o ∷ (g ∷ (f ∷ (k ∷ (w ∷ (s ∷ [])))))))) ∷ []))) ∷ (t ∷ [])))
-    ≡ first_some (a ∷ (in_row n b ∷ (in_row n d ∷ (u ∷ (in_row n q ∷ (in_row n (first_some (o ∷ (g ∷ []))) ∷ (in_row n (first_some (f ∷ (k ∷ []))) ∷ (in_row n (first_some (w ∷ (s ∷ []))) ∷ (t ∷ [])))))))))
+    ≡ first_some (a ∷ (in_row n b ∷ (in_row n d ∷ (u ∷ (in_row n q ∷ (in_row n (first_some (o ∷ (g ∷ []))) ∷ (in_row n f ∷ (in_row n k ∷ (in_row n w ∷ (in_row n s ∷ (t ∷ [])))))))))))
 flat n (Some x) b d u q o g f k w s t = refl
 flat n None (Some x) d u q o g f k w s t = refl
 flat n None None (Some x) u q o g f k w s t = refl
@@ -69,7 +69,7 @@ module _ (l : Layout) (v : Moment) (c : Call) (h : Handed) where
   ready n m a is mark =
       let p = none_all (admission l v c h) (sym a) in
       let few : length v.entries + 1 ≤ 65535 = leb-true (length v.entries + 1) 65535 (unless_true _ _ (no_fault _ _ p.1.0)) in
-      record { next = is; few = subst (λ k. k ≤ 65535) (sym is) few; marked = mark; suited = record { known = no_fault _ _ p.1.1.0; valued = no_value (handed31 l h) p.1.1.1.0 } }
+      record { next = is; few = subst (λ k. k ≤ 65535) (sym is) few; marked = mark; known = no_fault _ _ p.1.1.0; valued = no_value (handed31 l h) p.1.1.1.0 }
     where
       no_value : (o : Option ℕ) → value_fault o ≡ None → o ≡ None
       no_value None e = refl

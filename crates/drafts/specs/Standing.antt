@@ -2,10 +2,10 @@
 use Rattle.std.specs.Prelude.{◌≡◌, ℕ, ◌+◌, ◌≤◌, ltb, List, [], ◌∷◌, ◌++◌, length, None, Option}
 use Rattle.refusals.specs.declared.table.Refusal.{Refusal}
 use Rattle.refusals.specs.Refusals.{refusal}
-use Rattle.refusals.specs.Faults.{Fault, fault, in_row, unless, first_some}
+use Rattle.refusals.specs.Faults.{fault, in_row, unless, first_some}
 use Rattle.rows.specs.Rows.{put_all}
 use Rattle.layouts.specs.Layout.{Layout}
-use Rattle.records.specs.Row.{Entry, mark10, fields11, conditions15, entry_of}
+use Rattle.records.specs.Row.{mark10, fields11, conditions15, entry_of}
 use Rattle.records.specs.Entries.{Handed, meant, handed31, value_fault}
 use Rattle.legality.specs.Checks.{Call, row27, order20, group21, owner22, sum26, asks}
 use Rattle.legality.specs.Before.{row_of, sum_of}
@@ -37,34 +37,19 @@ admission l v c h =
     let n = length v.entries + 1 in
     unless (allows v.state c) (refusal 30 0 0) ∷ (in_row n (row27 n) ∷ (in_row n (mark10 l h.mark) ∷ (value_fault (handed31 l h) ∷ (in_row n (unless (asks l c h.mark) (fault 20 1)) ∷ (in_row n (first_some (order20 l v.entries h.mark ∷ (group21 l v.entries h.mark ∷ []))) ∷ [])))))
 
--- and of the row: its own fields and conditions, and what the entries before say of it
-abbrev pub own : Layout → Handed → List (Option Fault)
-own l h = fields11 l (meant h) ∷ (conditions15 l (meant h) ∷ [])
-
-abbrev pub among : Layout → List Entry → Entry → List (Option Fault)
-among l before e = owner22 l before e ∷ (sum26 l before e ∷ [])
-
+-- and of the row
 abbrev pub contents : Layout → Moment → Handed → List (Option Refusal)
 contents l v h =
     let n = length v.entries + 1 in
-    in_row n (first_some (own l h)) ∷ (in_row n (first_some (among l v.entries (meant h))) ∷ [])
-
--- an entry whose kind the book has, and whose values suit
-pub record Suited (l : Layout) (h : Handed) : Type 0 where
-  pub known : mark10 l h.mark ≡ None
-  pub valued : handed31 l h ≡ None
+    in_row n (fields11 l (meant h)) ∷ (in_row n (conditions15 l (meant h)) ∷ (in_row n (owner22 l v.entries (meant h)) ∷ (in_row n (sum26 l v.entries (meant h)) ∷ [])))
 
 -- an entry that was admitted as the next: its row's number and its kind's mark
 pub record Ready (l : Layout) (v : Moment) (h : Handed) (number mark : ℕ) : Type 0 where
   pub next : number ≡ length v.entries + 1
   pub few : number ≤ 65535
   pub marked : mark ≡ h.mark
-  pub suited : Suited l h
-
--- a good row that is read as the entry
-pub record Drawn (l : Layout) (h : Handed) (row : List ℕ) : Type 0 where
-  pub good : Good l row
-  pub read : entry_of l row ≡ meant h
+  pub known : mark10 l h.mark ≡ None
+  pub valued : handed31 l h ≡ None
 
 -- a row that may be pushed for the entry, and the sum with it
 pub record Fit (l : Layout) (v : Moment) (h : Handed) (row : List ℕ) (sum : ℕ) : Type 0 where

@@ -1,16 +1,14 @@
 // A draft: a file that is written entry by entry on a carrier.
-ghost use Rattle.std.specs.Prelude.{◌≡◌, ℕ, ◌+◌, ◌≤◌, List, [], ◌∷◌, ◌++◌, length, IfOk};
-ghost use Rattle.refusals.specs.Refusals.{refusal_in, of_file, of_draft};
-ghost use Rattle.refusals.specs.Faults.{in_row, first_some};
+ghost use Rattle.std.specs.Prelude.{◌≡◌, ℕ, ◌+◌, ◌≤◌, List, [], ◌∷◌, length, IfOk};
+ghost use Rattle.refusals.specs.Refusals.{refusal_in, of_draft};
+ghost use Rattle.refusals.specs.Faults.{first_some};
 ghost use Rattle.layouts.specs.Layout.{Layout};
-ghost use Rattle.records.specs.Row.{Entry as Line, mark_of, entry_of};
 ghost use Rattle.records.specs.Entries.{handed_of};
-ghost use Rattle.legality.specs.Before.{sum_of};
 ghost use Rattle.legality.specs.Checks.{starts, adds, closes};
-ghost use Rattle.standings.specs.Standing.{Stands, Good};
+ghost use Rattle.standings.specs.Standing.{Stands};
 ghost use Rattle.lives.specs.declared.states.State.TheVariants.{Fresh};
 ghost use Rattle.lives.specs.Draft.{Moment, state_after};
-ghost use Rattle.drafts.specs.Standing.{Shows, Wrote, admission, own, among, contents, Suited, Ready, Drawn, Fit};
+ghost use Rattle.drafts.specs.Standing.{Shows, Wrote, admission, contents, Ready, Fit};
 ghost use Rattle.lives.specs.Drafts.{Called};
 ghost use Rattle.lives.specs.States.{state_of, call_of};
 
@@ -20,7 +18,7 @@ use layouts::kinds::Kind;
 use lives::states::{Call, State};
 use numbers::cents::Cents;
 use records::{Entry, Worked, find_marked, judge};
-use refusals::{DraftFault, FileFault};
+use refusals::DraftFault;
 use rows::Carrier;
 use standings::progress::Progress;
 
@@ -54,35 +52,6 @@ const UNWORKED: Worked = Worked {
     total: 0,
     count: 0,
 };
-
-// The row of an entry with nothing worked out, once its own fields and its conditions are good.
-fn print_unworked<B: Book>(
-    book: &B,
-    row_number: usize,
-    entry: Entry,
-) -> Result<[u8; 750], DraftFault>
-    ensures refused { Suited B.Meant.meaning (handed_of entry.entry) → refusal_in of_draft result ≡ in_row row_number (first_some (own B.Meant.meaning (handed_of entry.entry))) }
-    ensures drawn { Suited B.Meant.meaning (handed_of entry.entry) → IfOk result (λ row. Drawn B.Meant.meaning (handed_of entry.entry) row) }
-{
-    let mut row = [b' '; 750];
-    print(book, entry, UNWORKED, row_number, &mut row)?;
-    judge(book, row_number, &row)?;
-    Ok(row)
-}
-
-// The sum with a good row, once it is bound to its owner.
-fn sum_bound<B: Book>(
-    progress: &Progress,
-    book: &B,
-    admitted: Admitted,
-    row: &[u8; 750],
-) -> Result<Cents, FileFault>
-    ensures refused { (es : List Line) → Stands B.Meant.meaning progress.now es → Good B.Meant.meaning row.now → admitted.kind.mark ≡ mark_of row.now → refusal_in of_file result ≡ in_row admitted.row_number (first_some (among B.Meant.meaning es (entry_of B.Meant.meaning row.now))) }
-    ensures sum { (es : List Line) → Stands B.Meant.meaning progress.now es → Good B.Meant.meaning row.now → admitted.kind.mark ≡ mark_of row.now → IfOk result (λ sum. sum.value ≡ sum_of B.Meant.meaning (es ++ entry_of B.Meant.meaning row.now ∷ [])) }
-{
-    progress.tie(book, admitted.row_number, admitted.kind, row)?;
-    progress.sum_with(book, admitted.row_number, admitted.kind, row)
-}
 
 impl<B: Book, C: Carrier> Draft<B, C> {
     // A fresh draft. Its rows are numbered from 1 whatever the carrier holds.
@@ -123,13 +92,18 @@ impl<B: Book, C: Carrier> Draft<B, C> {
         ensures refused { (v : Moment) → Shows B.Meant.meaning C.Source.rows C.Carrier.places self.now v → Ready B.Meant.meaning v (handed_of entry.entry) admitted.row_number admitted.kind.mark → refusal_in of_draft result ≡ first_some (contents B.Meant.meaning v (handed_of entry.entry)) }
         ensures fit { (v : Moment) → Shows B.Meant.meaning C.Source.rows C.Carrier.places self.now v → Ready B.Meant.meaning v (handed_of entry.entry) admitted.row_number admitted.kind.mark → IfOk result (λ p. Fit B.Meant.meaning v (handed_of entry.entry) p.row p.sum.value) }
     {
-        let row_number = admitted.row_number;
-        let mut row = print_unworked(&self.book, row_number, entry)?;
-        let sum = sum_bound(&self.progress, &self.book, admitted, &row)?;
+        let mut row = [b' '; 750];
+        print(&self.book, entry, UNWORKED, admitted.row_number, &mut row)?;
+        judge(&self.book, admitted.row_number, &row)?;
+        self.progress
+            .tie(&self.book, admitted.row_number, admitted.kind, &row)?;
+        let sum = self
+            .progress
+            .sum_with(&self.book, admitted.row_number, admitted.kind, &row)?;
         let worked = self
             .progress
-            .worked(&self.book, row_number, admitted.kind, sum);
-        print(&self.book, entry, worked, row_number, &mut row)?;
+            .worked(&self.book, admitted.row_number, admitted.kind, sum);
+        print(&self.book, entry, worked, admitted.row_number, &mut row)?;
         Ok(Prepared { row, sum })
     }
 
