@@ -3,7 +3,7 @@ ghost use Rattle.std.specs.Prelude.{◌≡◌, MatchOption, ◌≢◌};
 ghost use Rattle.books.specs.declared.letters.Letter.{Letter};
 ghost use Rattle.books.specs.Letters.{byte_of};
 
-#[derive(Clone, Copy)]
+#[derive(Clone, Copy, PartialEq, Eq, Debug)]
 pub enum Letter {
     // Outgoing receipts.
     P,

@@ -29,7 +29,7 @@ fn put_positions(out: &mut Vec<u8>, field: Field) -> Result<(), AllocError>
     put_position(out, field.start + field.width - 1)
 }
 
-pub(crate) fn sort_word(sort: Sort) -> &'static str
+pub fn sort_word(sort: Sort) -> &'static str
     ensures { result.now ≡ sort_word (sort_of sort) }
 {
     match sort {
@@ -50,7 +50,7 @@ pub(crate) fn sort_word(sort: Sort) -> &'static str
 }
 
 // Nothing for constants, blanks and worked fields, to which nobody gives a value.
-pub(crate) fn requirement(field: Field) -> &'static str
+pub fn requirement(field: Field) -> &'static str
     ensures { result.now ≡ requirement (field_of field) }
 {
     match field.sort {
@@ -139,7 +139,7 @@ fn put_name(out: &mut Vec<u8>, name: &str) -> Result<(), AllocError>
 }
 
 // The line of a field, with its name as a remark.
-pub(crate) fn put_field(
+pub fn put_field(
     heap: Global,
     out: &mut Vec<u8>,
     letter: u8,
@@ -156,12 +156,7 @@ pub(crate) fn put_field(
 }
 
 // The line before the fields of a kind.
-pub(crate) fn put_heading(
-    out: &mut Vec<u8>,
-    letter: u8,
-    mark: u8,
-    title: &str,
-) -> Result<(), AllocError>
+pub fn put_heading(out: &mut Vec<u8>, letter: u8, mark: u8, title: &str) -> Result<(), AllocError>
     ensures { OnOk result (out.new.items ≡ out.old.items ++ heading letter mark title.now) }
 {
     let mut lead = *b"# P kind 0 - ";

@@ -47,7 +47,7 @@ fn put_book<B: Book + Named>(
     Ok(())
 }
 
-pub(crate) fn put_table(heap: Global, out: &mut Vec<u8>, letter: Letter) -> Result<(), AllocError>
+pub fn put_table(heap: Global, out: &mut Vec<u8>, letter: Letter) -> Result<(), AllocError>
     ensures { OnOk result (Wrote out.old.items out.new.items (TableText (byte_of letter) (layout_of letter))) }
 {
     match letter {

@@ -6,7 +6,7 @@ ghost use Rattle.books.specs.Letters.{byte_of};
 use books::letters::Letter;
 
 // The letter that a word is, if it is one.
-pub(crate) fn letter_in(word: &[u8]) -> Option<Letter>
+pub fn letter_in(word: &[u8]) -> Option<Letter>
     ensures { MatchOption result ((l : Letter) → word.now ≢ byte_of l ∷ []) (λ l. word.now ≡ byte_of l ∷ []) }
 {
     if word.len() == 1 {

@@ -8,7 +8,8 @@ use Rattle.legality.specs.File.{checked}
 use Rattle.files.proofs.Telling.{backed}
 use Rattle.lives.proofs.AnyDrafts.{exchange_of}
 use Rattle.drafts.specs.declared.drafts.Draft.{Draft}
-use Rattle.drafts.specs.Runs.{Answer, Exchanged, ReadBack}
+use Rattle.drafts.specs.Runs.{Answer, Exchanged}
+use Rattle.drafts.specs.Reading.{ReadBack}
 use Rattle.drafts.specs.Standing.{Shows, seen_in}
 
 module _ {B C S : Type 0} (l : Layout) (law : Lawful l) (rows : C → List (List ℕ)) (places : C → ℕ) (rows_in : S → List (List ℕ)) (whole : (s : S) (k : ℕ) → k < length (rows_in s) → length (get_or (rows_in s) k []) ≡ 750) where

@@ -6,14 +6,14 @@ use Rattle.layouts.specs.Layout.{Layout}
 use Rattle.drafts.specs.declared.drafts.Draft.{Draft}
 use Rattle.drafts.specs.declared.running.Request.{Request}
 use Rattle.lives.specs.Drafts.{Called}
-use Rattle.drafts.specs.Runs.{Answer, asked_in, accepted_in, Ran}
+use Rattle.drafts.specs.Runs.{Answer, asked_in, accepted, Ran}
 use Rattle.drafts.specs.Standing.{Shows}
 
 abbrev pub counted : Answer → ℕ → ℕ
 counted (Ok u) n = suc n
 counted (Err e) n = n
 
-also : (r : Answer) (n : ℕ) (rs : List Answer) → n ≡ accepted_in rs → counted r n ≡ accepted_in (r ∷ rs)
+also : (r : Answer) (n : ℕ) (rs : List Answer) → n ≡ accepted rs → counted r n ≡ accepted (r ∷ rs)
 also (Ok u) n rs e = ap suc e
 also (Err x) n rs e = e
 

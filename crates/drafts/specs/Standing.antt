@@ -1,6 +1,7 @@
 -- What a draft of the program stands for, and what its calls promise.
-use Rattle.std.specs.Prelude.{◌≡◌, ℕ, ◌+◌, ◌≤◌, ltb, List, [], ◌∷◌, ◌++◌, length, None, Option}
+use Rattle.std.specs.Prelude.{◌≡◌, ℕ, ◌+◌, ◌≤◌, ltb, List, [], ◌∷◌, ◌++◌, length, None, Ok, Err, Option, Result}
 use Rattle.refusals.specs.declared.table.Refusal.{Refusal}
+use Rattle.refusals.specs.declared.draft.DraftFault.{DraftFault}
 use Rattle.refusals.specs.Refusals.{refusal}
 use Rattle.refusals.specs.Faults.{fault, in_row, unless, first_some}
 use Rattle.rows.specs.Rows.{put_all}
@@ -21,6 +22,11 @@ Shows l rows places d v = (state_of d.state ≡ v.state) × Stands l d.progress 
 
 abbrev pub seen_in : {B C : Type 0} → (C → List (List ℕ)) → (C → ℕ) → Seen (Draft B C)
 seen_in rows places = record { rows = λ d. rows d.carrier; places = λ d. places d.carrier; state = λ d. state_of d.state }
+
+-- a refused call leaves the very draft that was there
+abbrev pub Kept : {D : Type 0} → D → D → Result (Unit {0}) DraftFault → Type 0
+Kept before after (Ok u) = Unit {0}
+Kept before after (Err e) = after ≡ before
 
 -- what a draft's calls leave below it: the rows that were added, each as a line at its place of the memory, every other byte as
 -- it was, and the same loans and book

@@ -8,7 +8,7 @@ ghost use Rattle.legality.specs.Checks.{starts, adds, closes};
 ghost use Rattle.standings.specs.Standing.{Stands};
 ghost use Rattle.lives.specs.declared.states.State.TheVariants.{Fresh};
 ghost use Rattle.lives.specs.Draft.{Moment, state_after};
-ghost use Rattle.drafts.specs.Standing.{Shows, Wrote, admission, contents, Ready, Fit};
+ghost use Rattle.drafts.specs.Standing.{Shows, Kept, Wrote, admission, contents, Ready, Fit};
 ghost use Rattle.lives.specs.Drafts.{Called};
 ghost use Rattle.lives.specs.States.{state_of, call_of};
 
@@ -110,6 +110,7 @@ impl<B: Book, C: Carrier> Draft<B, C> {
     // One call: the entry is taken, or refused and nothing changes.
     fn take_entry(&mut self, call: Call, entry: Entry) -> Result<(), DraftFault>
         ensures told { Called B.Meant.meaning (refusal_in of_draft) (Shows B.Meant.meaning C.Source.rows C.Carrier.places) self.old (call_of call) (handed_of entry.entry) result self.new }
+        ensures kept { Kept self.old self.new result }
         ensures wrote { Wrote C.Source.rows C.Carrier.memory C.Carrier.lenders C.Carrier.size C.Carrier.line self.old self.new }
     {
         let admitted = self.admit(call, entry)?;
@@ -129,6 +130,7 @@ impl<B: Book, C: Carrier> Draft<B, C> {
     // Takes the header. The draft must be fresh.
     pub fn start(&mut self, entry: Entry) -> Result<(), DraftFault>
         ensures told { Called B.Meant.meaning (refusal_in of_draft) (Shows B.Meant.meaning C.Source.rows C.Carrier.places) self.old starts (handed_of entry.entry) result self.new }
+        ensures kept { Kept self.old self.new result }
         ensures wrote { Wrote C.Source.rows C.Carrier.memory C.Carrier.lenders C.Carrier.size C.Carrier.line self.old self.new }
     {
         self.take_entry(Call::Start, entry)
@@ -137,6 +139,7 @@ impl<B: Book, C: Carrier> Draft<B, C> {
     // Takes an entry of any other kind than header and trailer. The draft must be open.
     pub fn add(&mut self, entry: Entry) -> Result<(), DraftFault>
         ensures told { Called B.Meant.meaning (refusal_in of_draft) (Shows B.Meant.meaning C.Source.rows C.Carrier.places) self.old adds (handed_of entry.entry) result self.new }
+        ensures kept { Kept self.old self.new result }
         ensures wrote { Wrote C.Source.rows C.Carrier.memory C.Carrier.lenders C.Carrier.size C.Carrier.line self.old self.new }
     {
         self.take_entry(Call::Add, entry)
@@ -145,6 +148,7 @@ impl<B: Book, C: Carrier> Draft<B, C> {
     // Takes the trailer. The draft must be open, and is then closed.
     pub fn close(&mut self, entry: Entry) -> Result<(), DraftFault>
         ensures told { Called B.Meant.meaning (refusal_in of_draft) (Shows B.Meant.meaning C.Source.rows C.Carrier.places) self.old closes (handed_of entry.entry) result self.new }
+        ensures kept { Kept self.old self.new result }
         ensures wrote { Wrote C.Source.rows C.Carrier.memory C.Carrier.lenders C.Carrier.size C.Carrier.line self.old self.new }
     {
         self.take_entry(Call::Close, entry)

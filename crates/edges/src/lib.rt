@@ -2,7 +2,15 @@
 #![tactic(auto)]
 
 ghost use Rattle.edges.specs.Edges.{EdgesHold};
+ghost use Rattle.edges.specs.Table.{TableHolds};
 
-pub fn edges_hold()
+pub fn edges_hold() -> u8
     ensures { EdgesHold }
+{
+    0
+}
+
+// One table of edges, with whole files.
+pub fn table_holds()
+    ensures { TableHolds }
 {}

@@ -1,6 +1,6 @@
 // One value of a row.
-ghost use Rattle.std.specs.Prelude.{◌≡◌, ◌-◌, ◌<◌, ◌≤◌, map, length, IfOk, Some, MatchResult, slice_index_or};
-ghost use Rattle.refusals.specs.Refusals.{refusal, of_value};
+ghost use Rattle.std.specs.Prelude.{◌≡◌, ◌-◌, ◌<◌, ◌≤◌, map, length, Some, Ok, Err, MatchResult, slice_index_or};
+ghost use Rattle.refusals.specs.Refusals.{refusal, of_value, of_take};
 ghost use Rattle.fields.specs.Meaning.{field_of};
 ghost use Rattle.layouts.specs.Layout.{no_field};
 ghost use Rattle.records.specs.Held.{cell_in};
@@ -55,8 +55,8 @@ fn taken_from<'a>(field: &Field, row: &'a [u8], whole: &[u8; 750]) -> Taken<'a>
 
 // Value `number`, from 1, of one row.
 pub fn take<'a, B: Book>(book: &B, row: &'a [u8], number: usize) -> Result<Taken<'a>, TakeFault>
+    ensures told { MatchResult result (λ taken. (take_value B.Meant.meaning row.now number ≡ Ok (value_in taken)) × TakenAt row.entry.ref_ptr (field_of_value B.Meant.meaning row.now number) taken) (λ e. take_value B.Meant.meaning row.now number ≡ Err (of_take e)) }
     ensures answer { took result ≡ take_value B.Meant.meaning row.now number }
-    ensures place { IfOk result (λ taken. TakenAt row.entry.ref_ptr (field_of_value B.Meant.meaning row.now number) taken) }
 {
     let Ok(whole) = <&[u8; 750]>::try_from(row) else {
         return Err(TakeFault::Carrier(CarrierFault::BadForm(row.len().min(750))));

@@ -98,19 +98,19 @@ fn check<R: Rule>(rule: &R, bytes: &[u8]) -> Result<(), Flaw>
     Ok(())
 }
 
-pub(crate) fn check_text(text: &[u8]) -> Result<(), Flaw>
+pub fn check_text(text: &[u8]) -> Result<(), Flaw>
     ensures { MatchResult result (λ _. check_text text.now ≡ Ok text.now) (λ e. check_text text.now ≡ Err e) }
 {
     check(&TextRule { size: text.len() }, text)
 }
 
-pub(crate) fn check_digits(bytes: &[u8]) -> Result<(), Flaw>
+pub fn check_digits(bytes: &[u8]) -> Result<(), Flaw>
     ensures { MatchResult result (λ _. check_digits bytes.now ≡ Ok bytes.now) (λ e. check_digits bytes.now ≡ Err e) }
 {
     check(&DigitRule, bytes)
 }
 
-pub(crate) fn check_fixed(content: &[u8], bytes: &[u8]) -> Result<(), Flaw>
+pub fn check_fixed(content: &[u8], bytes: &[u8]) -> Result<(), Flaw>
     ensures { MatchResult result (λ _. read_fixed content.now bytes.now ≡ Ok None) (λ e. read_fixed content.now bytes.now ≡ Err e) }
 {
     let at = first_bad(&FixedRule { content }, bytes);
@@ -121,7 +121,7 @@ pub(crate) fn check_fixed(content: &[u8], bytes: &[u8]) -> Result<(), Flaw>
 }
 
 // Whether digits are not all zeros.
-pub(crate) fn has_nonzero(digits: &[u8]) -> bool
+pub fn has_nonzero(digits: &[u8]) -> bool
     ensures { result ≡ some_bad no_zero digits.now }
 {
     first_bad(&ZeroRule, digits) < digits.len()

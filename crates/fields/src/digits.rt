@@ -19,7 +19,7 @@ fn number_of(digits: &[u8]) -> u64
     number
 }
 
-pub(crate) fn read_number(field: &[u8]) -> Result<u64, Flaw>
+pub fn read_number(field: &[u8]) -> Result<u64, Flaw>
     requires { length field.now ≤ 18 }
     ensures { MatchResult result (λ n. read_number field.now ≡ Ok n) (λ e. read_number field.now ≡ Err e) }
 {

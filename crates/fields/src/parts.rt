@@ -44,7 +44,7 @@ fn read_bytes<'a>(sort: Sort, part: &'a [u8]) -> Result<Content<'a>, Flaw>
 }
 
 // What the part holds, or what is wrong with it.
-pub(crate) fn read_part<'a>(field: Field, part: &'a [u8]) -> Result<Content<'a>, Flaw>
+pub fn read_part<'a>(field: Field, part: &'a [u8]) -> Result<Content<'a>, Flaw>
     requires fit { fits (field_of field) ≡ true }
     requires width { length part.now ≡ field.width }
     ensures { MatchResult result (λ v. (read_field (field_of field) part.now ≡ Ok (cell_of v)) × LiesAt part.entry.ref_ptr v) (λ e. read_field (field_of field) part.now ≡ Err e) }
@@ -86,7 +86,7 @@ fn put(sort: Sort, part: &mut [u8], content: Content)
 }
 
 // Writes a content that is found good, and nothing before.
-pub(crate) fn write_part(field: Field, part: &mut [u8], content: Content) -> Result<(), Flaw>
+pub fn write_part(field: Field, part: &mut [u8], content: Content) -> Result<(), Flaw>
     requires fit { fits (field_of field) ≡ true }
     requires width { length part.old ≡ field.width }
     ensures { MatchResult result (λ _. write_field (field_of field) (cell_of content.entry) ≡ Ok part.new) (λ e. (write_field (field_of field) (cell_of content.entry) ≡ Err e) × (part.new ≡ part.old)) }

@@ -17,7 +17,7 @@ fn trim(field: &[u8]) -> &[u8]
     &field[0..n]
 }
 
-pub(crate) fn read_text(field: &[u8]) -> Result<&[u8], Flaw>
+pub fn read_text(field: &[u8]) -> Result<&[u8], Flaw>
     ensures { MatchResult result (λ t. (read_text field.now ≡ Ok t.now) × (t.ref_ptr ≡ field.entry.ref_ptr)) (λ e. read_text field.now ≡ Err e) }
 {
     let text = trim(field);
@@ -26,7 +26,7 @@ pub(crate) fn read_text(field: &[u8]) -> Result<&[u8], Flaw>
 }
 
 // Writes a text that fits, and then blanks.
-pub(crate) fn put_padded(field: &mut [u8], text: &[u8])
+pub fn put_padded(field: &mut [u8], text: &[u8])
     requires { length text.now ≤ length field.old }
     ensures { field.new ≡ padded (length field.old) text.now }
 {

@@ -64,7 +64,7 @@ fn is_listed(sort: Sort, content: Content) -> bool
 }
 
 // Whether a content is filled where it must be, and listed where it is filled.
-pub(crate) fn check_value(sort: Sort, required: bool, content: Content) -> Result<(), Flaw>
+pub fn check_value(sort: Sort, required: bool, content: Content) -> Result<(), Flaw>
     ensures { MatchResult result (λ _. gate (sort_of sort) required (cell_of content.entry) ≡ Ok (cell_of content.entry)) (λ e. gate (sort_of sort) required (cell_of content.entry) ≡ Err e) }
 {
     if sort.is_filled(content) {

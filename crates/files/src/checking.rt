@@ -19,7 +19,7 @@ use standings::progress::Progress;
 use standings::worked::{Look, check_worked};
 
 // How many rows a file has, and their summed amount.
-#[derive(Clone, Copy)]
+#[derive(Clone, Copy, PartialEq, Eq, Debug)]
 pub struct Accepted {
     pub rows: usize,
     pub sum: Cents,

@@ -1,7 +1,7 @@
 // Conditions between the fields of a row: if the premise holds, so does the claim.
 // Fields go by their places among the kind's fields, from 0.
 
-#[derive(Clone, Copy)]
+#[derive(Clone, Copy, PartialEq, Eq, Debug)]
 pub enum Premise {
     Always,
     // A code is the given one.
@@ -11,7 +11,7 @@ pub enum Premise {
     IfFilled(usize),
 }
 
-#[derive(Clone, Copy)]
+#[derive(Clone, Copy, PartialEq, Eq, Debug)]
 pub enum Claim {
     IsFilled(usize),
     NotFilled(usize),
@@ -25,7 +25,7 @@ pub enum Claim {
     ShortBoth(usize, usize, usize),
 }
 
-#[derive(Clone, Copy)]
+#[derive(Clone, Copy, PartialEq, Eq, Debug)]
 pub struct Condition {
     pub premise: Premise,
     pub claim: Claim,

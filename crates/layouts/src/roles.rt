@@ -6,7 +6,7 @@ use crate::book::Book;
 use crate::kinds::Kind;
 
 // Where a kind stands in a file: at its beginning, at its end, or between.
-#[derive(Clone, Copy)]
+#[derive(Clone, Copy, PartialEq, Eq, Debug)]
 pub enum Role {
     Header,
     Trailer,

@@ -20,7 +20,7 @@ module _ (l : Layout) {D R : Type 0} (refused : R → Option Refusal) (Shows : D
   lives (called d d' taken c h r life s) =
       let p = lives life in
       let v = p.0 in
-      let q = s.0 v p.1 in
+      let q = s v p.1 in
       (next l (judged l v c h) v c h, q.1, goes_on v _ taken c h (refused r) p.2 (record { answers = q.0; leaves = refl }))
 
   pub lives_a_life : LivesALife l refused Shows
@@ -32,7 +32,7 @@ module _ (l : Layout) {D R : Type 0} (refused : R → Option Refusal) (Shows : D
   runs [] (r ∷ rs) d d' v s ran = absurd ran
   runs (q ∷ qs) [] d d' v s ran = absurd ran
   runs (q ∷ qs) (r ∷ rs) d d' v s ran =
-      let told = ran.1.0 v s in
+      let told = ran.1 v s in
       let u = next l (judged l v q.call q.handed) v q.call q.handed in
       let more = runs qs rs ran.0 d' u told.1 ran.2 in
       (more.0, more.1, (u, record { answers = told.0; leaves = refl }, more.2))

@@ -12,17 +12,11 @@ use Rattle.legality.specs.File.{Legal, Accepted, accepted, checked, Whole}
 use Rattle.lives.specs.Draft.{State, done, Moment, judged, next}
 use Rattle.lives.specs.Life.{Life, beginning, taking, Asked, in_order, Inside}
 
--- a refused call leaves the very draft that was there
-abbrev pub Kept : {D : Type 0} → Option Refusal → D → D → Type 0
-Kept None d d' = Unit {0}
-Kept (Some x) d d' = d' ≡ d
-
 -- D are drafts and R answers; `refused` tells an answer's refusal, and `Shows d v` that the draft d stands for the moment v
 module _ (l : Layout) {D R : Type 0} (refused : R → Option Refusal) (Shows : D → Moment → Type 0) where
-  -- what start, add and close each promise: the answer and what is left, of every moment that the draft stands for; a refusal leaves the very draft
+  -- what start, add and close each promise, of every moment that the draft stands for
   abbrev pub Called : D → Call → Handed → R → D → Type 0
-  Called d c h r d' =
-      ((v : Moment) → Shows d v → (refused r ≡ judged l v c h) × Shows d' (next l (judged l v c h) v c h)) × Kept (refused r) d d'
+  Called d c h r d' = (v : Moment) → Shows d v → (refused r ≡ judged l v c h) × Shows d' (next l (judged l v c h) v c h)
 
   -- a life: fresh on an empty carrier at first, then start, add and close alone, accepted and refused in any mixture, with the entries taken
   pub data LifeOf : D → List Entry → Type 0 where

@@ -5,6 +5,8 @@ ghost use Rattle.lives.specs.Exchange.{ExchangeLaw};
 
 pub mod states;
 
-pub fn moments_law()
+pub fn moments_law() -> u8
     ensures { ExchangeLaw }
-{}
+{
+    0
+}

@@ -12,14 +12,14 @@ use layouts::roles::{Role, role_of};
 use refusals::{DraftFault, FileFault};
 
 // A draft is fresh, open after some kind of row, or closed.
-#[derive(Clone, Copy)]
+#[derive(Clone, Copy, PartialEq, Eq, Debug)]
 pub enum State {
     Fresh,
     Open(Kind),
     Closed,
 }
 
-#[derive(Clone, Copy)]
+#[derive(Clone, Copy, PartialEq, Eq, Debug)]
 pub enum Call {
     Start,
     Add,

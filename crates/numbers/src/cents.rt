@@ -5,7 +5,7 @@ ghost use Rattle.numbers.specs.Digits.{printed};
 use crate::digits::put_digits;
 
 // A whole number of cents that 17 digits can write, so that two of them can be added.
-#[derive(Clone, Copy)]
+#[derive(Clone, Copy, PartialEq, Eq, Debug)]
 pub struct Cents {
     value: u64,
     ghost bounded: { value < 10 ^ 17 },

@@ -6,7 +6,7 @@ ghost use Rattle.records.specs.Worked.{worked_of};
 use fields::field::Working;
 
 // One value of an entry. A text, a word or long digits lie in the pool of bytes beside the values.
-#[derive(Clone, Copy)]
+#[derive(Clone, Copy, PartialEq, Eq, Debug)]
 pub enum Value {
     Number(u64),
     Text { place: usize, length: usize },
@@ -21,7 +21,7 @@ pub struct Entry<'a, 'b> {
 }
 
 // The numbers that a draft works out for a row: its place, its owner's place, and a trailer's sum and count.
-#[derive(Clone, Copy)]
+#[derive(Clone, Copy, PartialEq, Eq, Debug)]
 pub struct Worked {
     pub row_number: u64,
     pub owner_number: u64,

@@ -11,7 +11,7 @@ use layouts::kinds::{Group, Kind};
 use layouts::told::{Limit, NoSum};
 
 // Book S.
-#[derive(Clone, Copy)]
+#[derive(Clone, Copy, PartialEq, Eq, Debug)]
 pub struct RecurringCharges;
 
 pub const HEADER: Kind = Kind { mark: b'0' };

@@ -2,7 +2,7 @@
 ghost use Rattle.std.specs.Prelude.{◌≡◌};
 ghost use Rattle.refusals.specs.declared.draft.DraftFault.TheVariants as draft;
 ghost use Rattle.refusals.specs.declared.row.RowFault.TheVariants.{Field};
-ghost use Rattle.refusals.specs.Refusals.{of_draft, draft_of};
+ghost use Rattle.refusals.specs.Refusals.{of_draft, of_entry, draft_of};
 
 use crate::carrier::CarrierFault;
 use crate::entry::{EntryFault, ValueFault};
@@ -11,7 +11,7 @@ use crate::file::FileFault;
 use crate::row::RowFault;
 use crate::table::{Layer, Refusal};
 
-#[derive(Clone, Copy)]
+#[derive(Clone, Copy, PartialEq, Eq, Debug)]
 pub enum DraftFault {
     // The call is not for the draft's state.
     WrongState,
@@ -54,7 +54,7 @@ impl From<CarrierFault> for DraftFault {
 }
 
 impl From<EntryFault> for DraftFault {
-    ghost from_gives = { λ e r. r ≡ draft_of e };
+    ghost from_gives = { λ e r. (of_draft r ≡ of_entry e) × (r ≡ draft_of e) };
 
     fn from(fault: EntryFault) -> DraftFault {
         match fault {

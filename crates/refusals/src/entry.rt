@@ -11,20 +11,20 @@ use crate::row::RowFault;
 use crate::table::{Layer, Refusal};
 
 // The number, from 1, of the value that is missing, too many, of another sort, past the pool or not there.
-#[derive(Clone, Copy)]
+#[derive(Clone, Copy, PartialEq, Eq, Debug)]
 pub struct ValueFault {
     pub number: usize,
 }
 
 // What an entry is refused for before it is a row.
-#[derive(Clone, Copy)]
+#[derive(Clone, Copy, PartialEq, Eq, Debug)]
 pub enum EntryFault {
     Value(ValueFault),
     Row(RowFault),
 }
 
 // What the taking of one value is refused for.
-#[derive(Clone, Copy)]
+#[derive(Clone, Copy, PartialEq, Eq, Debug)]
 pub enum TakeFault {
     Carrier(CarrierFault),
     Row(RowFault),

@@ -5,7 +5,7 @@ ghost use Rattle.refusals.specs.Refusals.{of_field};
 use crate::table::{Layer, Refusal};
 
 // Each case has the row and the position, from 1.
-#[derive(Clone, Copy)]
+#[derive(Clone, Copy, PartialEq, Eq, Debug)]
 pub enum FieldFault {
     // A byte outside the sort, or a text's first or last byte a blank: the first such position.
     BadByte { row: usize, position: usize },

@@ -9,7 +9,7 @@ use crate::row::RowFault;
 use crate::table::{Layer, Refusal};
 
 // Rows and positions count from 1. The fault of a single row is carried whole.
-#[derive(Clone, Copy)]
+#[derive(Clone, Copy, PartialEq, Eq, Debug)]
 pub enum FileFault {
     // The kind may not stand here.
     OutOfOrder { row: usize },

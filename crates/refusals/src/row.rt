@@ -6,7 +6,7 @@ ghost use Rattle.refusals.specs.Refusals.{of_row};
 use crate::field::FieldFault;
 use crate::table::{Layer, Refusal};
 
-#[derive(Clone, Copy)]
+#[derive(Clone, Copy, PartialEq, Eq, Debug)]
 pub enum RowFault {
     // The book has no kind with the row's mark.
     NoSuchKind { row: usize },

@@ -11,7 +11,7 @@ use layouts::kinds::{Group, Kind};
 use layouts::told::{Limit, SumOf};
 
 // Book Q.
-#[derive(Clone, Copy)]
+#[derive(Clone, Copy, PartialEq, Eq, Debug)]
 pub struct ReturnedReceipts;
 
 pub const HEADER: Kind = Kind { mark: b'0' };

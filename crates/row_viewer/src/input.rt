@@ -15,7 +15,7 @@ pub enum InputFault {
 }
 
 // The row that the bytes hold in the hexadecimal form, if they hold one row.
-pub(crate) fn row_in(bytes: &[u8]) -> Result<[u8; 750], InputFault>
+pub fn row_in(bytes: &[u8]) -> Result<[u8; 750], InputFault>
     ensures { IfOk result (λ row. opened unhexed 1501 bytes.now ≡ row ∷ []) }
 {
     let rows: Opened<Hexadecimal> = match Opened::open(bytes) {

@@ -8,7 +8,7 @@ use fields::field::Field;
 pub const COLUMNS: usize = 60;
 
 // A byte that a terminal can show; a `?` for any other.
-pub(crate) fn shown(byte: u8) -> u8
+pub fn shown(byte: u8) -> u8
     ensures { (32 ≤ result) × ((result ≤ 126) × ((32 ≤ byte → byte ≤ 126 → result ≡ byte))) }
 {
     match byte {
@@ -18,7 +18,7 @@ pub(crate) fn shown(byte: u8) -> u8
 }
 
 // Where the line begins that shows a position, if lines begin at `start` and every 60 columns after it.
-pub(crate) fn line_with(start: usize, position: usize) -> usize
+pub fn line_with(start: usize, position: usize) -> usize
     requires { start ≤ position }
     ensures before { result ≤ position }
     ensures near { position - result < 60 }
@@ -29,7 +29,7 @@ pub(crate) fn line_with(start: usize, position: usize) -> usize
 }
 
 // The place of the field that has a position.
-pub(crate) fn field_with(fields: &[Field], position: usize) -> Option<usize>
+pub fn field_with(fields: &[Field], position: usize) -> Option<usize>
     ensures { IfSome result (λ i. Holds fields.now i position) }
 {
     for i in 0..fields.len() {

@@ -1,5 +1,5 @@
 // What the refusals of a row mean, in a few words.
-pub(crate) fn meaning_of(number: u8) -> &'static str {
+pub fn meaning_of(number: u8) -> &'static str {
     match number {
         10 => "the book has no kind with this mark",
         11 => "this byte may not stand here",

@@ -134,7 +134,7 @@ fn put_place<B: Book + Named>(
 }
 
 // What a row of a book is: its kind and its fields, or why it is refused.
-pub(crate) fn put_row<B: Book + Named>(
+pub fn put_row<B: Book + Named>(
     heap: Global,
     out: &mut Vec<u8>,
     letter: u8,

@@ -24,13 +24,19 @@ abbrev pub RoomFor : ℕ → ℕ → Result (Vec ℕ Global) TranscribeFault →
 RoomFor size rows (Ok v) = vec_len v ≡ rows * size
 RoomFor size rows (Err e) = e ≡ Memory
 
--- the input is what its rows are written as in the one form, and the output what they are written as in the other; or the input breaks its form; memory lacks only for an input that keeps it
+-- the input is what its rows are written as in the one form, and the output what they are written as in the other; or the input breaks its form
 abbrev pub Rewritten : ℕ → (List ℕ → List ℕ) → (List ℕ → List ℕ) → (ℕ → ℕ → Bool) → (List ℕ → List ℕ) → List ℕ → Result Transcript TranscribeFault → Type 0
 Rewritten size encoded decoded good other input (Ok t) =
     let rows = opened decoded size input in
     (flat_map encoded rows ≡ input) × (t.rows ≡ length rows) × (vec_items t.bytes ≡ flat_map other rows)
 Rewritten size encoded decoded good other input (Err (Form e)) = BrokenForm good size input e
-Rewritten size encoded decoded good other input (Err Memory) = Formed good size input
+Rewritten size encoded decoded good other input (Err Memory) = Unit {0}
+
+-- memory lacks only for an input that keeps its form
+abbrev pub LacksRoom : (ℕ → ℕ → Bool) → ℕ → List ℕ → Result Transcript TranscribeFault → Type 0
+LacksRoom good size input (Ok t) = Unit {0}
+LacksRoom good size input (Err (Form e)) = Unit {0}
+LacksRoom good size input (Err Memory) = Formed good size input
 
 -- the forms that the words name
 abbrev pub size_in : FormName → ℕ

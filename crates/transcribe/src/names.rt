@@ -10,7 +10,7 @@ pub enum FormName {
 }
 
 impl FormName {
-    pub(crate) fn word(self) -> &'static str
+    pub fn word(self) -> &'static str
         ensures { result.now ≡ word_of self }
     {
         match self {
@@ -21,7 +21,7 @@ impl FormName {
     }
 
     // The form that a word names, if it names one.
-    pub(crate) fn named(word: &str) -> Option<FormName>
+    pub fn named(word: &str) -> Option<FormName>
         ensures { MatchOption result (NoWord word.now) (λ f. word.now ≡ word_of f) }
     {
         match word {

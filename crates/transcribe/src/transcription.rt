@@ -1,6 +1,6 @@
 // The rows of one form, written in another.
 ghost use Rattle.std.specs.Prelude.{◌≡◌, ℕ, List, length, vec_len};
-ghost use Rattle.transcribe.specs.Transcribed.{RoomFor, Rewritten, Transcribed, encoded_in};
+ghost use Rattle.transcribe.specs.Transcribed.{RoomFor, Rewritten, LacksRoom, Transcribed, encoded_in, good_in, size_in};
 
 use crate::faults::TranscribeFault;
 use crate::names::FormName;
@@ -27,7 +27,8 @@ fn memory_for<G: Form>(heap: Global, rows: usize) -> Result<Vec<u8>, TranscribeF
 }
 
 fn rewrite<F: Form, G: Filling>(heap: Global, input: &[u8]) -> Result<Transcript, TranscribeFault>
-    ensures { Rewritten F.Form.size F.Form.encoded F.Form.decoded F.Form.good G.Form.encoded input.now result }
+    ensures rewritten { Rewritten F.Form.size F.Form.encoded F.Form.decoded F.Form.good G.Form.encoded input.now result }
+    ensures lacks { LacksRoom F.Form.good F.Form.size input.now result }
 {
     let opened: Opened<F> = match Opened::open(input) {
         Ok(opened) => opened,
@@ -45,7 +46,8 @@ fn rewrite_to<F: Form>(
     to: FormName,
     input: &[u8],
 ) -> Result<Transcript, TranscribeFault>
-    ensures { Rewritten F.Form.size F.Form.encoded F.Form.decoded F.Form.good (encoded_in to) input.now result }
+    ensures rewritten { Rewritten F.Form.size F.Form.encoded F.Form.decoded F.Form.good (encoded_in to) input.now result }
+    ensures lacks { LacksRoom F.Form.good F.Form.size input.now result }
 {
     match to {
         FormName::Flat => rewrite::<F, Flat>(heap, input),
@@ -55,13 +57,14 @@ fn rewrite_to<F: Form>(
 }
 
 // The rows that the input holds in the one form, all of them and in their order, in the other form.
-pub(crate) fn transcribe(
+pub fn transcribe(
     heap: Global,
     from: FormName,
     to: FormName,
     input: &[u8],
 ) -> Result<Transcript, TranscribeFault>
-    ensures { Transcribed from to input.now result }
+    ensures transcribed { Transcribed from to input.now result }
+    ensures lacks { LacksRoom (good_in from) (size_in from) input.now result }
 {
     match from {
         FormName::Flat => rewrite_to::<Flat>(heap, to, input),

@@ -19,7 +19,8 @@ returns-in_err-kind g c =
     let row = c.args.row.now in
     let w = c.in-Ok.ensures.1 in
     let p = err_from_is_err_and c.from_residual.result c.from_residual.ensures.1 in
-    rw (p.1, p.2) (record { answer = sym (take_refused l row w.long c.args.number _ (of_row_lem l c.in-Ok.whole.now row _ w.same c.in_err-kind.ensures.refused)); place = tt })
+    let e = take_refused l row w.long c.args.number _ (of_row_lem l c.in-Ok.whole.now row _ w.same c.in_err-kind.ensures.refused) in
+    rw (p.1, p.2) (record { told = e; answer = sym e })
 
 pub returns-in_err-field : goal.returns-in_err-field
 returns-in_err-field g c =
@@ -31,7 +32,8 @@ returns-in_err-field g c =
     let is = c.fields.ensures ∙ ap (fields_of l) (kind.found ∙ ap mark_of w.same) in
     let none = c.in_err-field.ensures in
     let p = err_from_is_err_and c.from_residual-in_err-field.result c.from_residual-in_err-field.ensures.1 in
-    rw (p.1, p.2) (record { answer = sym (take_past l row w.long c.args.number g.B.Meant.lawful (of_row_lem l c.in-Ok.whole.now row None w.same kind.refused) fs is none.1 ∙ ap Err (sym none.0)); place = tt })
+    let e = take_past l row w.long c.args.number g.B.Meant.lawful (of_row_lem l c.in-Ok.whole.now row None w.same kind.refused) fs is none.1 ∙ ap Err (sym none.0) in
+    rw (p.1, p.2) (record { told = e; answer = sym e })
 
 pub taken_from-requires : goal.taken_from-requires
 taken_from-requires g c =
@@ -58,7 +60,8 @@ returns g c =
     let at = c.in_ok-field.ensures in
     let here = at.2 ∙ ap (λ fs. get_or (entered_of fs) (c.args.number - 1) no_field) is in
     let taken = c.taken_from.ensures in
+    let e = take_value_lem l row w.long c.args.number g.B.Meant.lawful (of_row_lem l c.in-Ok.whole.now row None w.same kind.refused) fs is at.0 at.1 (field_of c.in_ok-field.field) at.2 (value_in c.taken_from.result) taken.value in
     record {
-      answer = sym (take_value_lem l row w.long c.args.number g.B.Meant.lawful (of_row_lem l c.in-Ok.whole.now row None w.same kind.refused) fs is at.0 at.1 (field_of c.in_ok-field.field) at.2 (value_in c.taken_from.result) taken.value);
-      place = subst (λ f. TakenAt c.args.row.ref_ptr f c.taken_from.result) here taken.place;
+      told = (e, subst (λ f. TakenAt c.args.row.ref_ptr f c.taken_from.result) here taken.place);
+      answer = sym e;
     }

@@ -14,12 +14,16 @@ returns-in-Ok-write_all g c =
     let rows_of = opened g.F.Form.decoded g.F.Form.size in
     let rows = rows_of c.in-Ok.opened.bytes.now in
     let same = ap rows_of open'.0 in
-    let len : length c.as_mut_slice.result.now ≡ length rows * size = memory.len ∙ c.in_ok-bytes.ensures ∙ ap (λ k. k * size) c.count.ensures in (
-      open'.3,
-      wrote.0 ∙ ap length same,
-      with_items_is c.in_ok-bytes.bytes c.write_all.new.memory (c.write_all.auto.memory ∙ memory.len)
-          ∙ wrote.2 ∙ laid_whole size g.G.Form.encoded rows c.as_mut_slice.result.now len ∙ ap (flat_map g.G.Form.encoded) same,
-    )
+    let len : length c.as_mut_slice.result.now ≡ length rows * size = memory.len ∙ c.in_ok-bytes.ensures ∙ ap (λ k. k * size) c.count.ensures in
+    record {
+      rewritten = (
+        open'.3,
+        wrote.0 ∙ ap length same,
+        with_items_is c.in_ok-bytes.bytes c.write_all.new.memory (c.write_all.auto.memory ∙ memory.len)
+            ∙ wrote.2 ∙ laid_whole size g.G.Form.encoded rows c.as_mut_slice.result.now len ∙ ap (flat_map g.G.Form.encoded) same,
+      );
+      lacks = tt;
+    }
 
 pub returns-in-Err-write_all : goal.returns-in-Err-write_all
 returns-in-Err-write_all g c =

@@ -4,7 +4,6 @@ use Rattle.refusals.specs.Faults.{in_row}
 use Rattle.records.specs.Row.{fields11, conditions15}
 use Rattle.records.specs.Entries.{handed_of, meant}
 use Rattle.refusals.specs.Refusals.{of_row, of_entry, of_file, of_draft}
-use Rattle.refusals.proofs.Carrying.{draft_tells}
 use Rattle.records.specs.Worked.{worked_of}
 use Rattle.records.proofs.Options.{all_none, some_none}
 use Rattle.legality.specs.Checks.{owner22, sum26}
@@ -24,7 +23,7 @@ returns-in_err-print g c =
     rw p.1 (record {
       refused = λ v s ready.
           let k = length v.entries + 1 in
-          ap Some (ap of_draft p.2 ∙ draft_tells c.in_err-print.field-0.0) ∙ (stops [] (in_row k (fields11 l (meant h))) (in_row k (conditions15 l (meant h)) ∷ (in_row k (owner22 l v.entries (meant h)) ∷ (in_row k (sum26 l v.entries (meant h)) ∷ []))) _ tt
+          ap Some p.2.0 ∙ (stops [] (in_row k (fields11 l (meant h))) (in_row k (conditions15 l (meant h)) ∷ (in_row k (owner22 l v.entries (meant h)) ∷ (in_row k (sum26 l v.entries (meant h)) ∷ []))) _ tt
           (at_fields l law v h n m ready (Some (of_entry c.in_err-print.field-0.0)) (worked_of unworked) nothing_fits c.in_err-print.ensures.refused));
       fit = λ v s ready. tt;
     })

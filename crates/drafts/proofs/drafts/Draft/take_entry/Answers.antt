@@ -20,12 +20,10 @@ returns-in_err-admitted g c =
     let x = of_draft c.in_err-admitted.field-0.0 in
     let p = err_from_is_err_and c.from_residual.result c.from_residual.ensures.1 in
     rw (p.1, p.2) (record {
-      told = (
-        (λ v s.
-            let e = not_admitted l v call h x (c.in_err-admitted.ensures.refused v s) in
-            (e, stays l v call h (Shows {B = g.row.B.Denot} {C = g.row.C.Denot} l g.C.Source.rows g.C.Carrier.places) c.args.self.now x e s)),
-        refl,
-      );
+      told = λ v s.
+          let e = not_admitted l v call h x (c.in_err-admitted.ensures.refused v s) in
+          (e, stays l v call h (Shows {B = g.row.B.Denot} {C = g.row.C.Denot} l g.C.Source.rows g.C.Carrier.places) c.args.self.now x e s);
+      kept = refl;
       wrote = nothing g.C.Source.rows g.C.Carrier.memory g.C.Carrier.lenders g.C.Carrier.size g.C.Carrier.line c.args.self.now;
     })
 
@@ -38,14 +36,12 @@ returns-in_err-prepared g c =
     let x = of_draft c.in_err-prepared.field-0.0 in
     let p = err_from_is_err_and c.from_residual-in_err-prepared.result c.from_residual-in_err-prepared.ensures.1 in
     rw (p.1, p.2) (record {
-      told = (
-        (λ v s.
-            let a = admitted.ensures.refused v s in
-            let fit = ready l v call h _ _ a (admitted.ensures.number v s) admitted.ensures.kind in
-            let e = not_fit l v call h x a (c.in_err-prepared.ensures.refused v s fit) in
-            (e, stays l v call h (Shows {B = g.row.B.Denot} {C = g.row.C.Denot} l g.C.Source.rows g.C.Carrier.places) c.args.self.now x e s)),
-        refl,
-      );
+      told = λ v s.
+          let a = admitted.ensures.refused v s in
+          let fit = ready l v call h _ _ a (admitted.ensures.number v s) admitted.ensures.kind in
+          let e = not_fit l v call h x a (c.in_err-prepared.ensures.refused v s fit) in
+          (e, stays l v call h (Shows {B = g.row.B.Denot} {C = g.row.C.Denot} l g.C.Source.rows g.C.Carrier.places) c.args.self.now x e s);
+      kept = refl;
       wrote = nothing g.C.Source.rows g.C.Carrier.memory g.C.Carrier.lenders g.C.Carrier.size g.C.Carrier.line c.args.self.now;
     })
 
@@ -59,17 +55,15 @@ returns-in_err-push g c =
     let push = c.in_err-push.ensures in
     let p = err_from_is_err_and c.from_residual-in_err-push.result c.from_residual-in_err-push.ensures.1 in
     rw (p.1, p.2) (record {
-      told = (
-        (λ v s.
-            let a = admitted.ensures.refused v s in
-            let fit = ready l v call h _ _ a (admitted.ensures.number v s) admitted.ensures.kind in
-            let b = c.in_ok-prepared.ensures.refused v s fit in
-            let full : v.places ≤ length v.rows = omega (arith, push.pushed.1, ap length s.2, s.3) in
-            let used = places_used_up l v call h a b full in
-            let x : Some (of_carrier c.in_err-push.field-0.0) ≡ Some (refusal 2 v.places 0) = ap Some (push.pushed.0 ∙ ap (λ k. refusal 2 k 0) s.3) in
-            (x ∙ used, stays l v call h (Shows {B = g.row.B.Denot} {C = g.row.C.Denot} l g.C.Source.rows g.C.Carrier.places) (record { book = d.book; carrier = c.push.new.self; state = d.state; progress = d.progress }) _ used (subst (λ k. Shows {B = g.row.B.Denot} {C = g.row.C.Denot} l g.C.Source.rows g.C.Carrier.places (record { book = d.book; carrier = k; state = d.state; progress = d.progress }) v) (sym push.kept) s))),
-        ap (λ k. record { book = d.book; carrier = k; state = d.state; progress = d.progress }) push.kept,
-      );
+      told = λ v s.
+          let a = admitted.ensures.refused v s in
+          let fit = ready l v call h _ _ a (admitted.ensures.number v s) admitted.ensures.kind in
+          let b = c.in_ok-prepared.ensures.refused v s fit in
+          let full : v.places ≤ length v.rows = omega (arith, push.pushed.1, ap length s.2, s.3) in
+          let used = places_used_up l v call h a b full in
+          let x : Some (of_carrier c.in_err-push.field-0.0) ≡ Some (refusal 2 v.places 0) = ap Some (push.pushed.0 ∙ ap (λ k. refusal 2 k 0) s.3) in
+          (x ∙ used, stays l v call h (Shows {B = g.row.B.Denot} {C = g.row.C.Denot} l g.C.Source.rows g.C.Carrier.places) (record { book = d.book; carrier = c.push.new.self; state = d.state; progress = d.progress }) _ used (subst (λ k. Shows {B = g.row.B.Denot} {C = g.row.C.Denot} l g.C.Source.rows g.C.Carrier.places (record { book = d.book; carrier = k; state = d.state; progress = d.progress }) v) (sym push.kept) s));
+      kept = ap (λ k. record { book = d.book; carrier = k; state = d.state; progress = d.progress }) push.kept;
       wrote = subst (λ k. Wrote {B = g.row.B.Denot} {C = g.row.C.Denot} g.C.Source.rows g.C.Carrier.memory g.C.Carrier.lenders g.C.Carrier.size g.C.Carrier.line d (record { book = d.book; carrier = k; state = d.state; progress = d.progress })) (sym push.kept) (nothing g.C.Source.rows g.C.Carrier.memory g.C.Carrier.lenders g.C.Carrier.size g.C.Carrier.line d);
     })
 
@@ -81,24 +75,22 @@ returns g c =
     let admitted = c.in_ok-admitted in
     let push = c.in_ok-push.ensures in
     record {
-      told = (
-        (λ v s.
-            let a = admitted.ensures.refused v s in
-            let n = admitted.ensures.number v s in
-            let able = ready l v call h _ _ a n admitted.ensures.kind in
-            let b = c.in_ok-prepared.ensures.refused v s able in
-            let fit = c.in_ok-prepared.ensures.fit v s able in
-            let free : length v.rows < v.places = omega (arith, push.pushed.0, ap length s.2, s.3) in
-            let e = taken l v call h a b free in
-            let mark = admitted.ensures.kind ∙ sym (ap (λ x. x.mark) fit.read) in
-            let sums = fit.sums ∙ ap (λ x. sum_of l (v.entries ++ x ∷ [])) (sym fit.read) in
-            let more = c.advance.ensures v.entries s.1 (record { number = n; few = able.few; marked = mark; good = fit.good }) sums in
-            let stands = subst (λ x. Stands l c.advance.new.self (v.entries ++ x ∷ [])) fit.read more in (
-              e,
-              goes_on l v call h (Shows {B = g.row.B.Denot} {C = g.row.C.Denot} l g.C.Source.rows g.C.Carrier.places) (record { book = c.args.self.now.book; carrier = c.push.new.self; state = admitted.admitted.state; progress = c.advance.new.self }) e
-                  (admitted.ensures.state, stands, push.pushed.1 ∙ ap (λ rs. rs ++ c.in_ok-prepared.prepared.row ∷ []) s.2 ∙ ap (λ r. v.rows ++ r ∷ []) fit.is, push.places ∙ s.3),
-            )),
-        tt,
-      );
+      told = λ v s.
+          let a = admitted.ensures.refused v s in
+          let n = admitted.ensures.number v s in
+          let able = ready l v call h _ _ a n admitted.ensures.kind in
+          let b = c.in_ok-prepared.ensures.refused v s able in
+          let fit = c.in_ok-prepared.ensures.fit v s able in
+          let free : length v.rows < v.places = omega (arith, push.pushed.0, ap length s.2, s.3) in
+          let e = taken l v call h a b free in
+          let mark = admitted.ensures.kind ∙ sym (ap (λ x. x.mark) fit.read) in
+          let sums = fit.sums ∙ ap (λ x. sum_of l (v.entries ++ x ∷ [])) (sym fit.read) in
+          let more = c.advance.ensures v.entries s.1 (record { number = n; few = able.few; marked = mark; good = fit.good }) sums in
+          let stands = subst (λ x. Stands l c.advance.new.self (v.entries ++ x ∷ [])) fit.read more in (
+            e,
+            goes_on l v call h (Shows {B = g.row.B.Denot} {C = g.row.C.Denot} l g.C.Source.rows g.C.Carrier.places) (record { book = c.args.self.now.book; carrier = c.push.new.self; state = admitted.admitted.state; progress = c.advance.new.self }) e
+                (admitted.ensures.state, stands, push.pushed.1 ∙ ap (λ rs. rs ++ c.in_ok-prepared.prepared.row ∷ []) s.2 ∙ ap (λ r. v.rows ++ r ∷ []) fit.is, push.places ∙ s.3),
+          );
+      kept = tt;
       wrote = record { added = c.in_ok-prepared.prepared.row ∷ []; behind = push.pushed.1; lines = push.memory; loans = push.lenders; book = refl };
     }
