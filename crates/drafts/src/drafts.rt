@@ -56,7 +56,8 @@ const UNWORKED: Worked = Worked {
 impl<B: Book, C: Carrier> Draft<B, C> {
     // A fresh draft. Its rows are numbered from 1 whatever the carrier holds.
     pub fn new(book: B, carrier: C) -> Draft<B, C>
-        ensures { (result.book ≡ book) × ((result.carrier ≡ carrier) × ((result.state ≡ Fresh) × (Stands B.Meant.meaning result.progress []))) }
+        ensures fresh { (result.carrier ≡ carrier) × ((result.state ≡ Fresh) × (Stands B.Meant.meaning result.progress [])) }
+        ensures book { result.book ≡ book }
     {
         Draft {
             book,

@@ -1,15 +1,15 @@
 -- Lines joined one after the other: where each lies, and that a form's lines and rows are each other's.
-use Rattle.std.proofs.Common.{◌≡◌, ℕ, zero, suc, ◌+◌, ◌-◌, ◌*◌, ◌/◌, ◌%◌, ◌<◌, ◌≤◌, min, Bool, true, List, [], ◌∷◌, ◌++◌, length, get_or, take, drop, Ok, Err, Result, sym, refl, ap, ◌∙◌, subst, ⊎_elim, add-mul, mul-div_cancel, arith}
+use Rattle.std.proofs.Common.{◌≡◌, ℕ, zero, suc, ◌+◌, ◌-◌, ◌*◌, ◌/◌, ◌%◌, ◌<◌, ◌≤◌, min, Bool, true, List, [], ◌∷◌, ◌++◌, length, get_or, take, drop, Ok, Err, Result, sym, ap, ◌∙◌, subst, ⊎_elim, add-mul, mul-div_cancel, arith}
 use native.Mathlib.Nat.{mul-mod_left}
 use Rattle.std.specs.List.{flat_map}
-use Rattle.std.proofs.lemmas.List.{same_lists, ext_get_or, append_assoc, length-append, length-drop, length-take-le, take_all, take_at, drop_at, drop-drop, take-append-drop, take-append-le, drop-append-le, get_or_append_left, get_or-append-add, get_or-take, get_or-drop, get_or_default}
+use Rattle.std.proofs.lemmas.List.{same_lists, ext_get_or, append_assoc, length-append, length-drop, length-take-le, take_all, take_at, drop_at, drop-drop, take-append-drop, get_or_append_left, get_or-append-add, get_or-take, get_or-drop, get_or_default}
 use Rattle.std.proofs.lemmas.Bool.{cases_lt}
 use Rattle.std.proofs.lemmas.Nat.{div-add-mod', mod_below, mod-mul-add, mul-le}
-use Rattle.rows.specs.Lines.{line_at, rows_of, opened, Whole, OfBytes, Formed, written}
+use Rattle.rows.specs.Lines.{line_at, rows_of, opened, Whole, OfBytes, Formed}
 use Rattle.rows.specs.Laws.{FormLaw}
 use Rattle.rows.specs.Whole.{length-rows_of, get_or-rows_of, length-line_at, next_line, lines_fit, line_fits, rows_of_all}
 use Rattle.refusals.specs.declared.carrier.CarrierFault.{CarrierFault}
-use Rattle.rows.specs.Rows.{put, put_all, Moved, MovedBytes, laid, Laid}
+use Rattle.rows.specs.Rows.{put_all, Moved, MovedBytes, laid, Laid}
 
 -- each row's line has `size` bytes
 abbrev pub Filled : (List ℕ → List ℕ) → ℕ → List (List ℕ) → Type 0

@@ -1,6 +1,6 @@
 -- Each row that is read has 750 bytes.
-use Rattle.std.specs.Prelude.{◌≡◌, ℕ, ◌+◌, ◌-◌, ◌*◌, ◌/◌, ◌<◌, ◌≤◌, min, List, [], length, drop, slice_index_or}
-use Rattle.std.proofs.Common.{sym, ap, ◌∙◌, add-mul, one-mul, arith}
+use Rattle.std.specs.Prelude.{◌≡◌, ℕ, ◌+◌, ◌*◌, ◌/◌, ◌<◌, ◌≤◌, min, List, [], length, drop, slice_index_or}
+use Rattle.std.proofs.Common.{ap, ◌∙◌, add-mul, one-mul, arith}
 use Rattle.std.proofs.lemmas.List.{length-take-le, length-drop}
 use Rattle.std.proofs.lemmas.List.FromFn.{length-map-range_with_len, get_or-map-range_with_len}
 use Rattle.std.proofs.lemmas.Nat.{div-add-mod', mul-le}

@@ -1,4 +1,4 @@
-use Rattle.std.proofs.Common.{ap, ◌∙◌, arith}
+use Rattle.std.proofs.Common.{arith}
 use Rattle.rows.proofs.Cuts.{line_within, line_length, line_written}
 use Rattle.rows.proofs.lines.put_line.Goals as goal
 

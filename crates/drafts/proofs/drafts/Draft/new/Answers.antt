@@ -2,4 +2,4 @@ use Rattle.std.proofs.Common.{refl}
 use Rattle.drafts.proofs.drafts.Draft.new.Goals as goal
 
 pub returns : goal.returns
-returns g c = (refl, (refl, (refl, c.new.ensures g.B.Meant.meaning)))
+returns g c = record { fresh = (refl, (refl, c.new.ensures g.B.Meant.meaning)); book = refl }

@@ -1,4 +1,4 @@
-use Rattle.std.proofs.Common.{◌-◌, ◌/◌, ◌<◌, min, length, sym, ap, ◌∙◌, arith}
+use Rattle.std.proofs.Common.{◌-◌, ◌/◌, ◌<◌, min, length, sym, ◌∙◌, arith}
 use Rattle.rows.specs.Whole.{length-rows_of, get_or-rows_of}
 use Rattle.rows.proofs.writing.WrittenSource.copy_row.Goals as goal
 
