@@ -1,6 +1,6 @@
 -- The edges of a row, as one table over the definitions that the contracts cite.
 use Rattle.std.specs.Prelude.{◌≡◌, ℕ, ◌+◌, ◌-◌, ◌^◌, Bool, true, false, List, [], ◌∷◌, ◌++◌, replicate, Some, None, Ok, Err, codes, Option, Result}
-use Rattle.std.specs.List.{AllByRecursion as All}
+use Rattle.std.specs.List.{AllByRecursion}
 use Rattle.refusals.specs.declared.table.Refusal.{Refusal}
 use Rattle.refusals.specs.Refusals.{refusal}
 use Rattle.refusals.specs.Faults.{Fault, fault}
@@ -90,10 +90,10 @@ abbrev three : ℕ → List Entry
 three m = record { mark = 48; values = [] } ∷ (record { mark = m; values = [] } ∷ [])
 
 pub record EdgesHold : Type 0 where
-  pub written_so : All (λ w. at_field w.in' (write_field w.in' w.content) ≡ w.gives) written
-  pub read_so : All (λ r. at_field r.in' (read_field r.in' r.bytes) ≡ r.gives) read
+  pub written_so : AllByRecursion (λ w. at_field w.in' (write_field w.in' w.content) ≡ w.gives) written
+  pub read_so : AllByRecursion (λ r. at_field r.in' (read_field r.in' r.bytes) ≡ r.gives) read
   pub header_passes : entry_fault layout_p [] starts header_p ≡ None
-  pub added_so : All (λ a. entry_fault layout_p (header_p ∷ []) adds a.entry ≡ a.gives) added
+  pub added_so : AllByRecursion (λ a. entry_fault layout_p (header_p ∷ []) adds a.entry ≡ a.gives) added
   pub closes_so : entry_fault layout_p (header_p ∷ (charge_p 2 (codes "id1") 125000 125000 [] ∷ [])) closes trailer_p ≡ None
   pub counted_P : reckon layout_p (three 49) trailer_p count ≡ 3
   pub counted_Q : reckon layout_q (three 49) trailer_p count ≡ 1

@@ -1,6 +1,6 @@
 -- The edges of a row, as one table over the definitions that the contracts cite.
 use Rattle.std.specs.Prelude.{◌≡◌, ℕ, ◌-◌, ◌^◌, true, List, [], ◌∷◌, ◌++◌, length, take, drop, replicate, Some, None, Ok, Err, codes, Option, Result}
-use Rattle.std.specs.List.{AllByRecursion as All}
+use Rattle.std.specs.List.{AllByRecursion}
 use Rattle.refusals.specs.declared.table.Refusal.{Refusal}
 use Rattle.refusals.specs.Refusals.{refusal}
 use Rattle.refusals.specs.Faults.{Fault, fault}
@@ -91,4 +91,4 @@ edges =
     (checks layout_q (header_q ∷ (paid_q ∷ (trailer_q ∷ []))) 3 125000 ∷ [])))))))))))))))))))
 
 abbrev pub TableHolds : Type 0
-TableHolds = All Holds edges
+TableHolds = AllByRecursion Holds edges

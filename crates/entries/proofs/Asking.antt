@@ -1,5 +1,5 @@
 -- The turns of the loops over what the fields ask of an entry.
-use Rattle.std.proofs.Common.{◌≡◌, ℕ, ◌+◌, ◌<◌, ◌≤◌, min, Bool, true, false, cond, List, [], ◌∷◌, map, length, get_or, drop, Some, None, Option, sym, refl, ap, ◌∙◌, subst, arith}
+use Rattle.std.proofs.Common.{◌≡◌, ℕ, ◌+◌, ◌<◌, ◌≤◌, min, Bool, true, false, cond, List, ◌∷◌, map, length, get_or, drop, Some, None, Option, sym, refl, ap, ◌∙◌, arith}
 use Rattle.std.proofs.lemmas.List.{length-map, at_drop_more, at_drop_all}
 use Rattle.std.proofs.lemmas.Bool.{eq-eqb, ne_eqb}
 use Rattle.refusals.specs.declared.table.Refusal.{Refusal}
@@ -16,7 +16,7 @@ use Rattle.records.specs.declared.entries.Value.{Value}
 use Rattle.records.specs.Cells as c
 use Rattle.records.specs.Cells.{first_other, wrong_value}
 use Rattle.records.specs.Entries.{suits, value_fault}
-use Rattle.records.proofs.Options.{some_none, unless_true}
+use Rattle.records.proofs.Options.{some_none}
 
 refused_at : (b : Bool) (n : ℕ) (o : Option ℕ) (x : Refusal) → Some x ≡ unless b (refusal 31 n 0) → Some x ≡ value_fault (cond b o (Some n))
 refused_at true n o x e = some_none e

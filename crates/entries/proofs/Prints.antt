@@ -1,11 +1,11 @@
 -- The turns of the loop that prints an entry's fields.
-use Rattle.std.proofs.Common.{◌≡◌, ℕ, ◌+◌, ◌-◌, ◌<◌, ◌≤◌, Bool, true, eqb, List, [], ◌∷◌, ◌++◌, map, length, get_or, take, drop, Some, None, Ok, Err, Result, sym, refl, ap, ◌∙◌, subst, ⊎_elim, append_assoc, arith, length-append}
+use Rattle.std.proofs.Common.{◌≡◌, ℕ, ◌+◌, ◌-◌, ◌<◌, ◌≤◌, Bool, eqb, List, [], ◌∷◌, ◌++◌, map, length, get_or, take, drop, Some, None, Ok, Err, Result, sym, refl, ap, ◌∙◌, subst, ⊎_elim, append_assoc, arith, length-append}
 use Rattle.std.proofs.lemmas.List.{append-nil, at_drop_more, at_drop_all, drop_more, drop_all, length-drop, length-take-le, take_at, take_all, length-map}
 use Rattle.std.proofs.lemmas.Bool.{and_parts, cases_Bool, eqb-true}
 use Rattle.refusals.specs.declared.table.Refusal.{Refusal}
 use Rattle.refusals.specs.Faults.{Fault, in_row, and_then, fault_in}
 use Rattle.fields.specs.Field as s
-use Rattle.fields.specs.InRow.{at_field, part, placed, WrittenAs}
+use Rattle.fields.specs.InRow.{at_field, part, WrittenAs}
 use Rattle.fields.specs.Meaning.{field_of}
 use Rattle.fields.specs.declared.field.Field.{Field}
 use Rattle.fields.proofs.Fields.{field_law}

@@ -1,5 +1,5 @@
 -- One field of an entry's row, as it is printed.
-use Rattle.std.specs.Prelude.{◌≡◌, ℕ, ◌+◌, ◌<◌, true, List, map, length, Some, None, Option, Result, slice_index_or}
+use Rattle.std.specs.Prelude.{◌≡◌, ℕ, ◌+◌, ◌<◌, true, List, map, length, Some, None, Result, slice_index_or}
 use Rattle.refusals.specs.Faults.{Fault}
 use Rattle.fields.specs.Field.{Working, Cell, num}
 use Rattle.fields.specs.Meaning.{field_of}

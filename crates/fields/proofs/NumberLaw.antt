@@ -2,7 +2,7 @@
 use Rattle.std.proofs.Common.{◌≡◌, ℕ, zero, suc, ◌+◌, ◌-◌, ◌*◌, ◌/◌, ◌%◌, ◌^◌, ◌<◌, ◌≤◌, false, ltb, leb, List, [], ◌∷◌, length, Ok, sym, refl, ap, ◌∙◌, subst, add_assoc, mod-lt, mod-eq_of_lt, mul_assoc, add-mul, arith}
 use native.Mathlib.Nat.{pow-succ'}
 use lib.Arith.{digits_lt, digits_div, digits_mod, mod-mul}
-use Rattle.std.specs.List.{AllByRecursion as All}
+use Rattle.std.specs.List.{AllByRecursion}
 use Rattle.std.proofs.lemmas.Bool.{le-leb, and_from, and_parts, leb-true, not-false, not_from_true, lt-ltb, ltb-true}
 use Rattle.fields.specs.declared.flaws.Flaw.TheVariants.{Byte, Unfit}
 use Rattle.fields.specs.Places.{first_bad}
@@ -19,7 +19,7 @@ abbrev IsDigit : ℕ → Type 0
 IsDigit b = (48 ≤ b) × (b ≤ 57)
 
 abbrev IsDigits : List ℕ → Type 0
-IsDigits = All IsDigit
+IsDigits = AllByRecursion IsDigit
 
 pub is_digit : (k b : ℕ) → no_digit k b ≡ false → IsDigit b
 is_digit k b e = let p = and_parts (leb 48 b) (leb b 57) (not-false (digit b) e) in (leb-true 48 b p.0, leb-true b 57 p.1)

@@ -1,5 +1,5 @@
 -- A number: as many digits as the field is wide, zeros before it.
-use Rattle.std.specs.Prelude.{ℕ, zero, suc, ◌+◌, ◌-◌, ◌*◌, ◌/◌, ◌%◌, ◌^◌, Bool, cond, not, ◌&&◌, List, [], ◌∷◌, length, Ok, Err, Result, nat_le, nat_lt}
+use Rattle.std.specs.Prelude.{ℕ, ◌^◌, Bool, cond, not, ◌&&◌, List, Ok, Err, Result, nat_le, nat_lt}
 use Rattle.fields.specs.declared.flaws.Flaw.{Flaw}
 use Rattle.fields.specs.declared.flaws.Flaw.TheVariants.{Byte, Unfit}
 use Rattle.refusals.specs.Faults.{and_then}

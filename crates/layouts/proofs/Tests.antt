@@ -1,6 +1,6 @@
 -- The laws as one test that is computed over a table: a table that passes it keeps them.
-use Rattle.std.proofs.Common.{◌≡◌, ℕ, ◌+◌, ◌-◌, ◌≤◌, Bool, true, false, not, ◌&&◌, ◌||◌, eqb, ltb, leb, ◌⊎◌, List, [], ◌∷◌, length, get_or, Some, None, Option, sym, refl, ap, ◌∙◌, subst, inl, inr, ⊎_elim, arith}
-use Rattle.std.specs.List.{AllByRecursion as All}
+use Rattle.std.proofs.Common.{◌≡◌, ℕ, ◌+◌, ◌-◌, ◌≤◌, Bool, true, false, not, ◌&&◌, ◌||◌, eqb, ltb, leb, ◌⊎◌, List, [], ◌∷◌, length, get_or, Some, None, Option, sym, refl, ap, ◌∙◌, subst, inl, inr, ⊎_elim}
+use Rattle.std.specs.List.{AllByRecursion}
 use Rattle.std.proofs.lemmas.Bool.{eqb-true, leb-true, ltb-true, and_parts, or_cases, not-true, eqb-false, both_ways}
 use Rattle.fields.specs.Field.{Field, Sort, constant, blank, text, word, number, code, date, amount, long, worked, Working, number_of_row, number_of_owner, total, count, same}
 use Rattle.layouts.specs.Layout.{Layout, Kind, Group, Place, field_at, found, kind_of}
@@ -8,7 +8,7 @@ use Rattle.layouts.specs.declared.conditions.Premise.{Premise}
 use Rattle.layouts.specs.declared.conditions.Premise.TheVariants.{Always, IfCode, IfEither, IfFilled}
 use Rattle.layouts.specs.declared.conditions.Claim.{Claim}
 use Rattle.layouts.specs.declared.conditions.Claim.TheVariants.{IsFilled, NotFilled, IsCode, AtMost, Short, ShortBoth}
-use Rattle.layouts.specs.Lawful.{Covers, Begins, Ends, Between, Apart, WorkedWide, Wide, Printable, NoOuterBlank, Contents, CodeSort, NotWorked, Names, NamesPremise, NamesClaim, Has, LawfulKind, LawfulGroup, MarksApart, Lawful}
+use Rattle.layouts.specs.Lawful.{Covers, Begins, Ends, Between, Apart, WorkedWide, Wide, Printable, NoOuterBlank, Contents, CodeSort, NotWorked, Names, NamesPremise, NamesClaim, LawfulKind, LawfulGroup, MarksApart, Lawful}
 
 abbrev pub all? : {X : Type 0} → (X → Bool) → List X → Bool
 all? p [] = true
@@ -209,7 +209,7 @@ lawful? l =
 no : {X : Type 0} → false ≡ true → X
 no e = absurd (both_ways false refl e)
 
-all! : {X : Type 0} (P : X → Type 0) (p : X → Bool) → ((x : X) → p x ≡ true → P x) → (xs : List X) → all? p xs ≡ true → All P xs
+all! : {X : Type 0} (P : X → Type 0) (p : X → Bool) → ((x : X) → p x ≡ true → P x) → (xs : List X) → all? p xs ≡ true → AllByRecursion P xs
 all! P p h [] e = tt
 all! P p h (x ∷ xs) e = let q = and_parts (p x) (all? p xs) e in (h x q.0, all! P p h xs q.1)
 

@@ -1,7 +1,7 @@
 -- What the laws give of one field: it lies within its row. And a field as the code reads it is a field of the meaning.
-use Rattle.std.proofs.Common.{◌≡◌, ℕ, zero, suc, ◌+◌, ◌<◌, ◌≤◌, Bool, true, false, cond, eqb, List, [], ◌∷◌, map, length, get_or, Some, sym, refl, ap, ◌∙◌, subst, le_of_suc-le-suc, not-suc-le-zero, arith, lit≤}
+use Rattle.std.proofs.Common.{◌≡◌, ℕ, zero, suc, ◌+◌, ◌<◌, ◌≤◌, true, false, cond, eqb, List, [], ◌∷◌, map, length, get_or, Some, sym, refl, ap, ◌∙◌, subst, le_of_suc-le-suc, not-suc-le-zero, arith, lit≤}
 use lib.ListN.{length-map}
-use Rattle.std.specs.List.{AllByRecursion as All}
+use Rattle.std.specs.List.{AllByRecursion}
 use Rattle.std.proofs.ByRecursion.{All-weaker}
 use Rattle.fields.specs.Field as s
 use Rattle.fields.specs.Meaning.{field_of}
@@ -28,7 +28,7 @@ covers_at p (f ∷ fs) h c zero less =
 covers_at p (f ∷ fs) h c (suc i) less = covers_at (p + f.width) fs (omega arith) c.1 i (le_of_suc-le-suc less)
 
 -- what holds of every kind of the book, and of no kind, holds of the kind with a mark
-kind_with_lem : (P : Kind → Type 0) → P no_kind → (ks : List Kind) → All P ks → (m : ℕ) → P (or_none (found m ks))
+kind_with_lem : (P : Kind → Type 0) → P no_kind → (ks : List Kind) → AllByRecursion P ks → (m : ℕ) → P (or_none (found m ks))
 kind_with_lem P none [] all m = none
 kind_with_lem P none (k ∷ ks) all m =
     elim (eqb m k.mark) as (λ b. P (or_none (cond b (Some k) (found m ks)))) [ true ↦ all.0 | false ↦ kind_with_lem P none ks all.1 m ]

@@ -1,7 +1,7 @@
 -- The laws of a book: these and no other. Two of them the layout keeps by its shape: at most one kind owns followers, all
 -- of one kind, since it has one group at most; and at most one amount is summed, since it has one such place at most.
 use Rattle.std.specs.Prelude.{◌≡◌, ℕ, ◌+◌, ◌-◌, ◌<◌, ◌≤◌, ◌⊎◌, List, [], ◌∷◌, length, Some, ◌≢◌, slice_index}
-use Rattle.std.specs.List.{AllByRecursion as All}
+use Rattle.std.specs.List.{AllByRecursion}
 use Rattle.fields.specs.Field.{Field, Sort, constant, blank, text, word, number, code, date, amount, long, worked, Working, number_of_row, number_of_owner, total, count}
 use Rattle.layouts.specs.Layout.{Layout, Kind, Group, Place, field_at, found, kind_of}
 use Rattle.layouts.specs.declared.conditions.Premise.{Premise}
@@ -51,7 +51,7 @@ Wide (worked k) w = WorkedWide k w
 
 -- CONSTANTS AND WORDS
 abbrev pub Printable : List ℕ → Type 0
-Printable bs = All (Between 32 126) bs
+Printable bs = AllByRecursion (Between 32 126) bs
 
 abbrev pub NoOuterBlank : List ℕ → Type 0
 NoOuterBlank bs = Apart (slice_index bs 0) 32 × Apart (slice_index bs (length bs - 1)) 32
@@ -59,7 +59,7 @@ NoOuterBlank bs = Apart (slice_index bs 0) 32 × Apart (slice_index bs (length b
 -- they are printable and fit their fields, words without an outer blank
 pub record Contents (f : Field) : Type 0 where
   pub constants : (c : List ℕ) → f.sort ≡ constant c → Printable c × (length c ≤ f.width)
-  pub words : (us : List (List ℕ)) → f.sort ≡ word us → All (λ u. Printable u × (length u ≤ f.width) × NoOuterBlank u) us
+  pub words : (us : List (List ℕ)) → f.sort ≡ word us → AllByRecursion (λ u. Printable u × (length u ≤ f.width) × NoOuterBlank u) us
 
 -- CONDITIONS name fields of their kind with the fitting sort, none of them worked
 abbrev pub CodeSort : Sort → Type 0
@@ -96,22 +96,22 @@ pub record LawfulKind (l : Layout) (k : Kind) : Type 0 where
   pub begins : Begins k.mark k.fields
   pub ends : Ends k.fields
   -- numbers and codes have widths 1 to 18, dates 8, long digits 20, amounts and totals 17, row and owner numbers 6, counts 6 to 18
-  pub widths : All (λ f. Wide f.sort f.width) k.fields
-  pub contents : All Contents k.fields
-  pub conditions : All (λ c. NamesPremise k.fields c.premise × NamesClaim k.fields c.claim) k.conditions
+  pub widths : AllByRecursion (λ f. Wide f.sort f.width) k.fields
+  pub contents : AllByRecursion Contents k.fields
+  pub conditions : AllByRecursion (λ c. NamesPremise k.fields c.premise × NamesClaim k.fields c.claim) k.conditions
   -- totals and counts stand in the trailer only, owner numbers in followers only
-  pub totals : All (λ f. f.sort ≡ worked total → k.mark ≡ l.trailer) k.fields
-  pub counts : All (λ f. f.sort ≡ worked count → k.mark ≡ l.trailer) k.fields
-  pub owners : All (λ f. f.sort ≡ worked number_of_owner → (g : Group) × (l.group ≡ Some g) × (k.mark ≡ g.follower)) k.fields
+  pub totals : AllByRecursion (λ f. f.sort ≡ worked total → k.mark ≡ l.trailer) k.fields
+  pub counts : AllByRecursion (λ f. f.sort ≡ worked count → k.mark ≡ l.trailer) k.fields
+  pub owners : AllByRecursion (λ f. f.sort ≡ worked number_of_owner → (g : Group) × (l.group ≡ Some g) × (k.mark ≡ g.follower)) k.fields
   -- nothing follows the trailer
-  pub after : All (λ m. Apart m l.trailer) k.after
+  pub after : AllByRecursion (λ m. Apart m l.trailer) k.after
 
 pub record LawfulGroup (l : Layout) (g : Group) : Type 0 where
   pub kinds : Has l g.owner × Has l g.follower
   -- followers are neither header nor trailer
   pub inside : Apart g.follower l.header × Apart g.follower l.trailer
   -- a follower stands only after its owner or another follower
-  pub stands : All (λ m. (m ≡ g.owner) ⊎ (m ≡ g.follower)) (kind_of l g.follower).after
+  pub stands : AllByRecursion (λ m. (m ≡ g.owner) ⊎ (m ≡ g.follower)) (kind_of l g.follower).after
   -- both hold an identifier text of one width
   pub owner_text : Names (kind_of l g.owner).fields g.owner_identifier (λ s. s ≡ text)
   pub follower_text : Names (kind_of l g.follower).fields g.follower_identifier (λ s. s ≡ text)
@@ -122,10 +122,10 @@ pub record LawfulGroup (l : Layout) (g : Group) : Type 0 where
 -- no two kinds share a mark
 abbrev pub MarksApart : List Kind → Type 0
 MarksApart [] = Unit {0}
-MarksApart (k ∷ ks) = All (λ o. Apart k.mark o.mark) ks × MarksApart ks
+MarksApart (k ∷ ks) = AllByRecursion (λ o. Apart k.mark o.mark) ks × MarksApart ks
 
 pub record Lawful (l : Layout) : Type 0 where
-  pub kinds : All (LawfulKind l) l.kinds
+  pub kinds : AllByRecursion (LawfulKind l) l.kinds
   pub marks : MarksApart l.kinds
   pub group : (g : Group) → l.group ≡ Some g → LawfulGroup l g
   -- what is summed is an amount of a kind of the book, whichever kind that is

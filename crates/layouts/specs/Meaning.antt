@@ -1,5 +1,5 @@
 -- What the answers of a book's questions stand for.
-use Rattle.std.specs.Prelude.{ℕ, Bool, true, false, cond, Some, None, Option, ◌==◌}
+use Rattle.std.specs.Prelude.{ℕ, Bool, false, cond, Some, None, Option, ◌==◌}
 use Rattle.layouts.specs.declared.kinds.Kind.{Kind}
 use Rattle.layouts.specs.declared.kinds.Group.{Group}
 use Rattle.layouts.specs.declared.kinds.Place.{Place}

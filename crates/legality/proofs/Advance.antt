@@ -1,13 +1,13 @@
 -- What is kept of one entry more.
-use Rattle.std.proofs.Common.{◌≡◌, ℕ, suc, ◌+◌, ◌<◌, ◌≤◌, Bool, true, false, cond, eqb, ltb, List, [], ◌∷◌, ◌++◌, length, drop, Some, None, Option, sym, refl, ap, ◌∙◌, subst, ⊎_elim, arith}
+use Rattle.std.proofs.Common.{◌≡◌, ℕ, suc, ◌+◌, cond, eqb, ltb, List, [], ◌∷◌, ◌++◌, length, drop, Some, None, Option, sym, refl, ap, ◌∙◌, ⊎_elim, arith}
 use Rattle.std.proofs.lemmas.List.{length_push, drop-append-le, drop_all}
 use Rattle.std.proofs.lemmas.Bool.{cases_Bool, lt-ltb, cond-false}
 use Rattle.fields.specs.Field.{any_of}
 use Rattle.layouts.specs.Layout.{Layout, Group}
 use Rattle.layouts.specs.Meaning.{owns, follows}
 use Rattle.records.specs.Row.{Entry}
-use Rattle.legality.specs.Before.{last_of, last_place, last_entry, owner_place, no_entry, count_of, followers, amount_at, sum_of}
-use Rattle.legality.specs.Progress.{Progress, last_mark, owner_in, followers_in, progress_of, progressed, ProgressLaw}
+use Rattle.legality.specs.Before.{last_place, last_entry, owner_place, no_entry, count_of, followers, amount_at, sum_of}
+use Rattle.legality.specs.Progress.{Progress, last_mark, owner_in, followers_in, ProgressLaw}
 use Rattle.legality.proofs.Reckoning.{last_within}
 use Rattle.legality.proofs.Law.{last_push}
 

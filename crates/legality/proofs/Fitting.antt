@@ -1,8 +1,8 @@
 -- A field of a lawful kind lies in its row and has a width that fits its sort.
-use Rattle.std.proofs.Common.{◌≡◌, ℕ, ◌+◌, ◌≤◌, Bool, true, List, [], ◌∷◌, length, refl, arith}
-use Rattle.std.specs.List.{AllByRecursion as All}
+use Rattle.std.proofs.Common.{◌≡◌, ℕ, ◌+◌, ◌≤◌, true, List, [], ◌∷◌, length, refl, arith}
+use Rattle.std.specs.List.{AllByRecursion}
 use Rattle.std.proofs.lemmas.Bool.{le-leb, eq-eqb, and_from}
-use Rattle.fields.specs.Field.{Field, Sort, constant, blank, text, word, number, code, date, amount, long, worked, Working, number_of_row, number_of_owner, total, count, wide, wide_worked, inside, fits}
+use Rattle.fields.specs.Field.{Field, Sort, constant, blank, text, word, number, code, date, amount, long, worked, Working, number_of_row, number_of_owner, total, count, wide, wide_worked, fits}
 use Rattle.layouts.specs.Layout.{Layout, Kind}
 use Rattle.layouts.specs.Lawful.{Covers, Wide, WorkedWide, Contents, LawfulKind}
 
@@ -28,7 +28,7 @@ covers_end : (p : ℕ) (fs : List Field) → Covers p fs → p ≤ 751
 covers_end p [] e = omega arith
 covers_end p (f ∷ fs) h = omega (arith, covers_end (p + f.width) fs h.1)
 
-all_fit : (p : ℕ) (fs : List Field) → 1 ≤ p → Covers p fs → All (λ f. Wide f.sort f.width) fs → All Contents fs → All (λ f. fits f ≡ true) fs
+all_fit : (p : ℕ) (fs : List Field) → 1 ≤ p → Covers p fs → AllByRecursion (λ f. Wide f.sort f.width) fs → AllByRecursion Contents fs → AllByRecursion (λ f. fits f ≡ true) fs
 all_fit p [] one covers wides contents = tt
 all_fit p (f ∷ fs) one covers wides contents =
     let end = covers_end (p + f.width) fs covers.1 in (
@@ -36,5 +36,5 @@ all_fit p (f ∷ fs) one covers wides contents =
       all_fit (p + f.width) fs (omega arith) covers.1 wides.1 contents.1,
     )
 
-pub kind_fits : (l : Layout) (k : Kind) → LawfulKind l k → All (λ f. fits f ≡ true) k.fields
+pub kind_fits : (l : Layout) (k : Kind) → LawfulKind l k → AllByRecursion (λ f. fits f ≡ true) k.fields
 kind_fits l k law = all_fit 1 k.fields (omega arith) law.covers law.widths law.contents

@@ -1,10 +1,8 @@
 -- Files that the check accepts and legal lists, one to one.
-use Rattle.std.proofs.Common.{◌≡◌, ℕ, ◌^◌, ◌<◌, Bool, true, false, cond, not, ◌&&◌, ◌||◌, eqb, List, [], ◌∷◌, ◌++◌, map, length, Some, None, Ok, Err, Option, Result, sym, refl, ap, ◌∙◌, subst, ⊎_elim, append_assoc, append-nil, arith}
-use Rattle.std.specs.List.{AllByRecursion as All}
-use Rattle.std.proofs.lemmas.Bool.{cases_Bool, ltb-true, eqb-true, eq-eqb, ne_eqb, or_cases, and_from, and_parts, not_from_false, both_ways}
-use Rattle.refusals.specs.declared.table.Refusal.{Refusal}
-use Rattle.refusals.specs.Refusals.{refusal}
-use Rattle.refusals.specs.Faults.{Fault, fault, and_then, answer, unless, first_some}
+use Rattle.std.proofs.Common.{◌≡◌, ℕ, ◌^◌, ◌<◌, true, false, eqb, List, [], ◌∷◌, ◌++◌, map, length, None, Ok, sym, refl, ap, ◌∙◌, subst, ⊎_elim, append_assoc, append-nil, arith}
+use Rattle.std.specs.List.{AllByRecursion}
+use Rattle.std.proofs.lemmas.Bool.{ltb-true, eqb-true, ne_eqb, or_cases, and_from, not_from_false, both_ways}
+use Rattle.refusals.specs.Faults.{answer, unless, first_some}
 use Rattle.fields.specs.Field.{any_of}
 use Rattle.fields.proofs.Results.{then_ok, ok_then}
 use Rattle.layouts.specs.Layout.{Layout, kind_of}
@@ -13,9 +11,9 @@ use Rattle.records.specs.Row.{Entry, mark10, values31, mark_of, entry_of, row_fa
 use Rattle.records.proofs.Options.{none_all, all_none, no_fault, unless_true, true_unless, answered, answers}
 use Rattle.records.proofs.Law.{lawful_kind}
 use Rattle.legality.specs.Before.{last_of, sum_of, row_of, rows_after, rows_of}
-use Rattle.legality.specs.Checks.{may_stand, order20, row_checks, row_fault, Call, starts, adds, closes, asks, entry_fault}
+use Rattle.legality.specs.Checks.{may_stand, row_checks, row_fault, Call, starts, adds, closes, asks, entry_fault}
 use Rattle.legality.specs.File.{Onward, Legal, Accepted, accepted, closed, checked_after, checked, Whole, FileLaw, FilesKeepTheLaw}
-use Rattle.legality.proofs.Place.{Passed, passed, enters, leaves}
+use Rattle.legality.proofs.Place.{passed, enters, leaves}
 
 pub last_push : (e : Entry) (es : List Entry) (x : Entry) → last_of e (es ++ x ∷ []) ≡ x
 last_push e [] x = refl
@@ -29,7 +27,7 @@ pub closed_push : (l : Layout) (before : List Entry) (e : Entry) → closed l (b
 closed_push l [] e = refl
 closed_push l (b ∷ bs) e = ap (λ x. eqb x.mark l.trailer) (last_push b bs e)
 
-apart : (t x : ℕ) (ms : List ℕ) → All (λ m. Apart m t) ms → any_of ms x ≡ true → Apart x t
+apart : (t x : ℕ) (ms : List ℕ) → AllByRecursion (λ m. Apart m t) ms → any_of ms x ≡ true → Apart x t
 apart t x [] h e is = let z : ◌≡◌ {A = ℕ} 0 1 = cc in absurd (omega arith)
 apart t x (m ∷ ms) h e is =
     ⊎_elim
@@ -107,7 +105,7 @@ module _ (l : Layout) (law : Lawful l) where
   abbrev pub Sound : List ℕ → Type 0
   Sound row = (length row ≡ 750) × (first_some (row_faults l row) ≡ None)
 
-  pub whole : (rows : List (List ℕ)) → All Sound rows → Whole rows
+  pub whole : (rows : List (List ℕ)) → AllByRecursion Sound rows → Whole rows
   whole [] h = tt
   whole (row ∷ rows) h = (h.0.0, whole rows h.1)
 
@@ -134,7 +132,7 @@ module _ (l : Layout) (law : Lawful l) where
   onward (e ∷ (x ∷ xs)) before h =
       takes before adds e (rows_after l (before ++ e ∷ []) (x ∷ xs)) _ h.0 (onward (x ∷ xs) (before ++ e ∷ []) h.1 ∙ ap (λ y. Ok (accepted l y)) (append_assoc before (e ∷ []) (x ∷ xs)))
 
-  onward_shows : (es : List Entry) (before : List Entry) → Onward l before es → All Sound (rows_after l before es) × (map (entry_of l) (rows_after l before es) ≡ es)
+  onward_shows : (es : List Entry) (before : List Entry) → Onward l before es → AllByRecursion Sound (rows_after l before es) × (map (entry_of l) (rows_after l before es) ≡ es)
   onward_shows [] before h = absurd h
   onward_shows (e ∷ []) before h = let s = shows before closes e h in ((s.0, tt), ap (λ x. x ∷ []) s.1)
   onward_shows (e ∷ (x ∷ xs)) before h =
@@ -142,7 +140,7 @@ module _ (l : Layout) (law : Lawful l) where
       let r = onward_shows (x ∷ xs) (before ++ e ∷ []) h.1 in
       ((s.0, r.0), ap (λ y. y ∷ map (entry_of l) (rows_after l (before ++ e ∷ []) (x ∷ xs))) s.1 ∙ ap (λ ys. e ∷ ys) r.1)
 
-  pub legal_shows : (es : List Entry) → Legal l es → All Sound (rows_of l es) × (map (entry_of l) (rows_of l es) ≡ es)
+  pub legal_shows : (es : List Entry) → Legal l es → AllByRecursion Sound (rows_of l es) × (map (entry_of l) (rows_of l es) ≡ es)
   legal_shows [] h = absurd h
   legal_shows (e ∷ es) h =
       let s = shows [] starts e h.0 in

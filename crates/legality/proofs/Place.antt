@@ -1,13 +1,12 @@
 -- One row after the entries before: it is not refused exactly when it is the row of an entry that is not refused.
-use Rattle.std.proofs.Common.{◌≡◌, ℕ, ◌+◌, ◌^◌, ◌<◌, ◌≤◌, Bool, true, false, cond, eqb, ltb, leb, List, [], ◌∷◌, ◌++◌, length, Some, None, Ok, Err, Option, sym, refl, ap, ◌∙◌, subst, ⊎_elim, arith}
+use Rattle.std.proofs.Common.{◌≡◌, ℕ, ◌+◌, ◌^◌, ◌<◌, ◌≤◌, Bool, true, eqb, List, [], ◌∷◌, ◌++◌, length, Some, None, Ok, Option, sym, refl, ap, ◌∙◌, ⊎_elim}
 use Rattle.std.proofs.lemmas.Bool.{cases_Bool, eqb-true, leb-true, ltb-true}
-use Rattle.refusals.specs.declared.table.Refusal.{Refusal}
-use Rattle.refusals.specs.Faults.{Fault, fault, in_row, first_some, fault_in, ok_or, unless}
-use Rattle.fields.specs.Field.{Working, Value, Cell}
+use Rattle.refusals.specs.Faults.{in_row, first_some, ok_or}
+use Rattle.fields.specs.Field.{Working}
 use Rattle.layouts.specs.Layout.{Layout}
 use Rattle.layouts.specs.Lawful.{Lawful}
-use Rattle.records.specs.Cells.{cells, sorts_asked, first_other, wrong_value, write_cells}
-use Rattle.records.specs.Row.{Entry, fields_of, origins_of, contents, mark10, values31, fields11, conditions15, Acceptable, print_row, mark_of, cells_of, entry_of, digits_of, row_faults}
+use Rattle.records.specs.Cells.{cells, sorts_asked}
+use Rattle.records.specs.Row.{Entry, fields_of, origins_of, contents, mark10, values31, fields11, conditions15, Acceptable, print_row, mark_of, entry_of, digits_of, row_faults}
 use Rattle.records.proofs.Options.{some_none, none_all, all_none, no_fault, in_none, unless_true, true_unless}
 use Rattle.records.proofs.Cells.{shaped, alike, prints_all}
 use Rattle.records.proofs.Law.{reads, writes, lawful_kind}

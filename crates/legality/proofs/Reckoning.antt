@@ -1,18 +1,18 @@
 -- The worked fields: what they must hold fits them, and is what they hold where none is wrong.
-use Rattle.std.proofs.Common.{◌≡◌, ℕ, zero, suc, ◌+◌, ◌^◌, ◌<◌, ◌≤◌, Bool, true, false, cond, not, ◌&&◌, eqb, ltb, List, [], ◌∷◌, ◌++◌, length, Some, None, Ok, Err, Option, sym, refl, ap, ◌∙◌, subst, ⊎_elim, arith}
+use Rattle.std.proofs.Common.{◌≡◌, ℕ, ◌+◌, ◌^◌, ◌<◌, ◌≤◌, Bool, true, false, cond, not, ◌&&◌, eqb, ltb, List, [], ◌∷◌, ◌++◌, length, Some, None, Ok, Option, sym, refl, ap, ◌∙◌, subst, ⊎_elim, arith}
 use native.Mathlib.Nat.{pow-le-pow_right}
-use Rattle.std.specs.List.{AllByRecursion as All}
+use Rattle.std.specs.List.{AllByRecursion}
 use Rattle.std.proofs.lemmas.List.{length_push}
-use Rattle.std.proofs.lemmas.Bool.{cases_Bool, eqb-true, eq-eqb, lt-ltb, not_from_true}
+use Rattle.std.proofs.lemmas.Bool.{cases_Bool, eqb-true, eq-eqb, lt-ltb}
 use Rattle.refusals.specs.Faults.{Fault, fault}
 use Rattle.fields.specs.Field.{Field, Sort, constant, blank, text, word, number, code, date, amount, long, worked, Working, number_of_row, number_of_owner, total, count, Value, num, Cell, family, any_of, fits, write_field}
 use Rattle.numbers.specs.Digits.{printed}
 use Rattle.layouts.specs.Layout.{Layout, Group}
-use Rattle.layouts.specs.Lawful.{Between, WorkedWide, Wide}
-use Rattle.records.specs.Cells.{Origin, of_book, entered, reckoned, is_num, is_txt, origin_at, origin, origins, cells, sorts_asked}
+use Rattle.layouts.specs.Lawful.{WorkedWide, Wide}
+use Rattle.records.specs.Cells.{Origin, of_book, entered, reckoned, origin_at, origin, origins, cells, sorts_asked}
 use Rattle.records.specs.Row.{Entry}
 use Rattle.records.proofs.Options.{some_none}
-use Rattle.records.proofs.Cells.{Shaped, FitAt, WorkedAt, WorkedFit}
+use Rattle.records.proofs.Cells.{Shaped, WorkedAt, WorkedFit}
 use Rattle.records.specs.Worked.{reckoned_by}
 use Rattle.legality.specs.Before.{last_place, owner_place, count_of, reckon, sum_of}
 use Rattle.legality.specs.Checks.{first_wrong, is_number, is_total, is_count}
@@ -66,7 +66,7 @@ module _ (r : Working → ℕ) (small : (k : Working) (w : ℕ) → WorkedWide k
   fit_next (entered p) f os Rest e w g more (v ∷ vs) h = (tt, more vs (omega (arith, h)))
   fit_next (reckoned s k) f os Rest e w g more vs h = (prints_number f.start s f.sort f refl w g k e, more vs h)
 
-  pub worked_fit : (fs : List Field) → All (λ f. Wide f.sort f.width) fs → All (λ f. fits f ≡ true) fs → (vs : List Value) → length (sorts_asked (origins fs)) ≡ length vs → WorkedFit fs (cells (origins fs) vs (reckoned_by r (origins fs)))
+  pub worked_fit : (fs : List Field) → AllByRecursion (λ f. Wide f.sort f.width) fs → AllByRecursion (λ f. fits f ≡ true) fs → (vs : List Value) → length (sorts_asked (origins fs)) ≡ length vs → WorkedFit fs (cells (origins fs) vs (reckoned_by r (origins fs)))
   worked_fit [] w g [] h = tt
   worked_fit [] w g (v ∷ vs) h = absurd (omega (arith, h))
   worked_fit (f ∷ fs) w g vs h = fit_next (origin f) f (origins fs) (WorkedFit fs) refl w.0 g.0 (worked_fit fs w.1 g.1) vs h

@@ -1,5 +1,5 @@
 -- What the entries before say of the next: its place, its owner, the sum and the count.
-use Rattle.std.specs.Prelude.{ℕ, suc, ◌+◌, Bool, true, false, cond, List, [], ◌∷◌, ◌++◌, length, drop, Some, None, Option, ◌==◌, nat_lt}
+use Rattle.std.specs.Prelude.{ℕ, suc, ◌+◌, cond, List, [], ◌∷◌, ◌++◌, length, drop, Some, None, Option, ◌==◌, nat_lt}
 use Rattle.refusals.specs.Faults.{ok_or}
 use Rattle.fields.specs.Field.{Working, number_of_row, number_of_owner, total, count, any_of}
 use Rattle.layouts.specs.Layout.{Layout, Group, Place}

@@ -1,7 +1,6 @@
 -- The checks of a row and of an entry after the entries before, in the order of the table.
 use Rattle.std.specs.Prelude.{ℕ, ◌+◌, ◌^◌, Bool, true, false, cond, not, ◌&&◌, List, [], ◌∷◌, ◌++◌, length, Some, None, Option, ◌==◌, nat_le, nat_lt}
 use Rattle.refusals.specs.declared.table.Refusal.{Refusal}
-use Rattle.refusals.specs.Refusals.{refusal}
 use Rattle.refusals.specs.Faults.{Fault, fault, in_row, unless, first_some, fault_in}
 use Rattle.fields.specs.Field.{Working, number_of_row, number_of_owner, total, count, any_of, same}
 use Rattle.layouts.specs.Layout.{Layout, Group, Place, field_at, kind_of}

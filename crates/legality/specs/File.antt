@@ -1,6 +1,6 @@
 -- Files and legal lists.
-use Rattle.std.specs.Prelude.{◌≡◌, ℕ, Bool, true, false, cond, List, [], ◌∷◌, ◌++◌, length, Some, None, Ok, Err, Option, Result, ◌==◌}
-use Rattle.std.specs.List.{AllByRecursion as All}
+use Rattle.std.specs.Prelude.{◌≡◌, ℕ, Bool, false, List, [], ◌∷◌, ◌++◌, length, None, Ok, Result, ◌==◌}
+use Rattle.std.specs.List.{AllByRecursion}
 use Rattle.refusals.specs.declared.table.Refusal.{Refusal}
 use Rattle.refusals.specs.Refusals.{refusal}
 use Rattle.refusals.specs.Faults.{and_then, answer, unless}
@@ -8,7 +8,7 @@ use Rattle.layouts.specs.Layout.{Layout}
 use Rattle.layouts.specs.Lawful.{Lawful}
 use Rattle.records.specs.Row.{Entry, entry_of}
 use Rattle.legality.specs.Before.{last_of, sum_of, rows_of}
-use Rattle.legality.specs.Checks.{row_fault, Call, starts, adds, closes, entry_fault}
+use Rattle.legality.specs.Checks.{row_fault, starts, adds, closes, entry_fault}
 
 -- no check refuses the entries after those before: adds, and a close for the last
 abbrev pub Onward : Layout → List Entry → List Entry → Type 0
@@ -41,7 +41,7 @@ abbrev pub checked : Layout → List (List ℕ) → Result Accepted Refusal
 checked l rows = checked_after l [] rows
 
 abbrev pub Whole : List (List ℕ) → Type 0
-Whole rows = All (λ row. length row ≡ 750) rows
+Whole rows = AllByRecursion (λ row. length row ≡ 750) rows
 
 -- THE FILE LAW: what the check accepts are the rows of a legal list, of one only, and of every one
 pub record FileLaw (l : Layout) : Type 0 where

@@ -1,5 +1,5 @@
 -- What a program keeps of the entries before, and how one more entry changes it.
-use Rattle.std.specs.Prelude.{◌≡◌, ℕ, ◌+◌, Bool, true, false, cond, eqb, List, [], ◌∷◌, ◌++◌, length, Some, None, Option}
+use Rattle.std.specs.Prelude.{◌≡◌, ℕ, ◌+◌, cond, List, [], ◌∷◌, ◌++◌, length, Some, None, Option}
 use Rattle.fields.specs.Field.{any_of}
 use Rattle.layouts.specs.Layout.{Layout, Group}
 use Rattle.layouts.specs.Meaning.{owns, follows}

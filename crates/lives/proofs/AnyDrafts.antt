@@ -1,6 +1,6 @@
 -- The exchange law about any types of drafts, from the law about moments.
-use Rattle.std.proofs.Common.{◌≡◌, ℕ, ◌≤◌, List, [], ◌∷◌, map, length, Some, None, Ok, Option, sym, refl, ap, ◌∙◌, subst}
-use Rattle.std.specs.List.{AllByRecursion as All}
+use Rattle.std.proofs.Common.{◌≡◌, ◌≤◌, List, [], ◌∷◌, map, length, None, Ok, Option, sym, refl, ◌∙◌, subst}
+use Rattle.std.specs.List.{AllByRecursion}
 use Rattle.refusals.specs.declared.table.Refusal.{Refusal}
 use Rattle.layouts.specs.Layout.{Layout}
 use Rattle.layouts.specs.Lawful.{Lawful}
@@ -8,10 +8,10 @@ use Rattle.records.specs.Row.{Entry}
 use Rattle.records.specs.Entries.{Handed, meant}
 use Rattle.legality.specs.Before.{rows_of}
 use Rattle.legality.specs.File.{Legal, accepted, checked, Whole}
-use Rattle.lives.specs.Draft.{State, done, Moment, judged, next, Stepped}
-use Rattle.lives.specs.Life.{Life, begins, goes_on, beginning, taking, Asked, in_order, Inside, Ran}
+use Rattle.lives.specs.Draft.{done, Moment, judged, next}
+use Rattle.lives.specs.Life.{Life, begins, goes_on, beginning, Asked, in_order, Inside, Ran}
 use Rattle.lives.specs.Exchange.{Exchange}
-use Rattle.lives.specs.Drafts.{Called, LifeOf, begun, called, RanOf, LivesALife, Seen, Faithful, ExchangeOf}
+use Rattle.lives.specs.Drafts.{LifeOf, begun, called, RanOf, LivesALife, Seen, Faithful, ExchangeOf}
 use Rattle.lives.proofs.Law.{exchange_law}
 
 module _ (l : Layout) {D R : Type 0} (refused : R → Option Refusal) (Shows : D → Moment → Type 0) where
@@ -37,7 +37,7 @@ module _ (l : Layout) {D R : Type 0} (refused : R → Option Refusal) (Shows : D
       let more = runs qs rs ran.0 d' u told.1 ran.2 in
       (more.0, more.1, (u, record { answers = told.0; leaves = refl }, more.2))
 
-  none_refused : (rs : List R) → All (λ r. r ≡ None) (map refused rs) → All (λ r. refused r ≡ None) rs
+  none_refused : (rs : List R) → AllByRecursion (λ r. r ≡ None) (map refused rs) → AllByRecursion (λ r. refused r ≡ None) rs
   none_refused [] h = tt
   none_refused (r ∷ rs) h = (h.0, none_refused rs h.1)
 
@@ -66,7 +66,7 @@ module _ (l : Layout) (law : Lawful l) {D R : Type 0} (refused : R → Option Re
       let t = exchange.accepts p.0 es p.2 (sym a.2 ∙ closed) in
       subst (λ rows. Whole rows × (checked l rows ≡ Ok (accepted l es))) (sym a.0) t
 
-  takes : (es : List Entry) → Legal l es → (hs : List Handed) → map meant hs ≡ es → All Inside hs → (d d' : D) (rs : List R) → Shows d (beginning (seen.places d)) → length es ≤ seen.places d → RanOf l refused Shows d (in_order hs) rs d' → All (λ r. refused r ≡ None) rs × (seen.state d' ≡ done) × (seen.rows d' ≡ rows_of l es)
+  takes : (es : List Entry) → Legal l es → (hs : List Handed) → map meant hs ≡ es → AllByRecursion Inside hs → (d d' : D) (rs : List R) → Shows d (beginning (seen.places d)) → length es ≤ seen.places d → RanOf l refused Shows d (in_order hs) rs d' → AllByRecursion (λ r. refused r ≡ None) rs × (seen.state d' ≡ done) × (seen.rows d' ≡ rows_of l es)
   takes es legal hs is inside d d' rs fresh room ran =
       let p = runs l refused Shows (in_order hs) rs d d' (beginning (seen.places d)) fresh ran in
       let a = faithful d' p.0 p.1 in

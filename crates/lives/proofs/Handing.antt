@@ -1,15 +1,15 @@
 -- Values as they are handed in, and the values that they mean.
-use Rattle.std.proofs.Common.{◌≡◌, ℕ, ◌+◌, ◌<◌, Bool, true, false, cond, ◌&&◌, eqb, ltb, List, [], ◌∷◌, ◌++◌, map, length, Some, None, Option, sym, refl, ap, ◌∙◌, subst, ⊎_elim, arith}
-use Rattle.std.specs.List.{AllByRecursion as All}
+use Rattle.std.proofs.Common.{◌≡◌, ℕ, ◌+◌, ◌<◌, Bool, true, false, cond, ◌&&◌, eqb, ltb, List, [], ◌∷◌, map, length, Some, None, Option, sym, refl, ◌∙◌, ⊎_elim}
+use Rattle.std.specs.List.{AllByRecursion}
 use Rattle.std.proofs.lemmas.List.{length-map}
 use Rattle.std.proofs.lemmas.Bool.{cases_Bool, and_from, eqb-true, eq-eqb, lt-ltb}
 use Rattle.refusals.specs.Refusals.{refusal}
-use Rattle.refusals.specs.Faults.{unless, first_some}
+use Rattle.refusals.specs.Faults.{unless}
 use Rattle.fields.specs.Field.{Value}
 use Rattle.layouts.specs.Layout.{Layout}
 use Rattle.records.specs.Cells.{sorts_asked, first_other, wrong_value}
 use Rattle.records.specs.Row.{Entry, origins_of, values31}
-use Rattle.records.proofs.Options.{some_none, none_all, all_none, unless_true, true_unless}
+use Rattle.records.proofs.Options.{some_none, all_none, true_unless}
 use Rattle.legality.specs.Checks.{Call, checks_with, entry_fault}
 use Rattle.legality.proofs.Place.{passed, passes}
 use Rattle.records.specs.Entries.{Handed, value_of, meant, inside, suits, handed31}
@@ -40,7 +40,7 @@ module _ (pool : List ℕ) where
       let q = both (p (value_of pool g)) (inside pool g) n (first_other (n + 1) (map (suits pool) ps) gs) h in
       rw q.0 (none_other (n + 1) ps gs q.1)
 
-  other_none : (n : ℕ) (ps : List (Value → Bool)) (gs : List Given) → All (λ g. inside pool g ≡ true) gs → first_other n ps (map (value_of pool) gs) ≡ None → first_other n (map (suits pool) ps) gs ≡ None
+  other_none : (n : ℕ) (ps : List (Value → Bool)) (gs : List Given) → AllByRecursion (λ g. inside pool g ≡ true) gs → first_other n ps (map (value_of pool) gs) ≡ None → first_other n (map (suits pool) ps) gs ≡ None
   other_none n [] gs i h = refl
   other_none n (p ∷ ps) [] i h = refl
   other_none n (p ∷ ps) (g ∷ gs) i h =

@@ -1,29 +1,29 @@
 -- The exchange law.
-use Rattle.std.proofs.Common.{◌≡◌, ℕ, zero, suc, ◌+◌, ◌-◌, ◌<◌, ◌≤◌, min, Bool, true, false, cond, ◌&&◌, eqb, ltb, leb, List, [], ◌∷◌, ◌++◌, map, length, get_or, Some, None, Ok, Option, sym, refl, ap, ◌∙◌, subst, append_assoc, arith}
-use Rattle.std.specs.List.{AllByRecursion as All}
+use Rattle.std.proofs.Common.{◌≡◌, ℕ, zero, suc, ◌+◌, ◌-◌, ◌<◌, ◌≤◌, min, ◌&&◌, eqb, ltb, leb, List, [], ◌∷◌, ◌++◌, map, length, get_or, None, Ok, Option, sym, refl, ap, ◌∙◌, subst, append_assoc, arith}
+use Rattle.std.specs.List.{AllByRecursion}
 use Rattle.std.proofs.lemmas.List.{length-map, get_or-map, length_push}
 use Rattle.std.proofs.lemmas.Bool.{eq-eqb, and_from, lt-ltb, le-leb}
 use Rattle.refusals.specs.declared.table.Refusal.{Refusal}
 use Rattle.refusals.specs.Refusals.{refusal}
 use Rattle.refusals.specs.Faults.{in_row, unless, first_some}
-use Rattle.fields.specs.Field.{Value, num}
+use Rattle.fields.specs.Field.{num}
 use Rattle.layouts.specs.Layout.{Layout}
 use Rattle.layouts.specs.Lawful.{Lawful}
 use Rattle.records.specs.Row.{Entry, entry_of, row_faults, take_value}
 use Rattle.records.proofs.Options.{all_none, in_none, true_unless, answers}
 use Rattle.legality.specs.Before.{row_of, rows_after, rows_of, no_entry}
-use Rattle.legality.specs.Checks.{Call, starts, adds, closes, entry_fault}
+use Rattle.legality.specs.Checks.{Call, starts, adds, closes}
 use Rattle.legality.specs.File.{Onward, Legal, accepted, checked, Whole}
 use Rattle.legality.proofs.Law.{Sound, legal_shows, file_law}
 use Rattle.records.specs.Entries.{Handed, meant}
-use Rattle.lives.specs.Draft.{State, fresh, opened, done, Moment, moment, allows, state_after, judged, next, Stepped}
-use Rattle.lives.specs.Life.{Life, Ran, beginning, ask, onward, in_order, Inside}
+use Rattle.lives.specs.Draft.{opened, done, Moment, moment, judged, next, Stepped}
+use Rattle.lives.specs.Life.{Life, Ran, beginning, onward, in_order, Inside}
 use Rattle.lives.specs.Exchange.{Exchange, ExchangeLaw}
 use Rattle.lives.proofs.Handing.{not_judged}
 use Rattle.lives.proofs.Pools.{hand_all}
-use Rattle.lives.proofs.Lives.{Stage, Kept, lived}
+use Rattle.lives.proofs.Lives.{Stage, lived}
 
-all_at : {X : Type 0} (P : X → Type 0) (xs : List X) (i : ℕ) (d : X) → All P xs → i < length xs → P (get_or xs i d)
+all_at : {X : Type 0} (P : X → Type 0) (xs : List X) (i : ℕ) (d : X) → AllByRecursion P xs → i < length xs → P (get_or xs i d)
 all_at P [] i d h l = absurd (omega arith)
 all_at P (x ∷ xs) zero d h l = h.0
 all_at P (x ∷ xs) (suc i) d h l = all_at P xs i d h.1 (omega arith)
@@ -33,8 +33,8 @@ module _ (l : Layout) where
   goes : (v u : Moment) (c : Call) (h : Handed) (r : Option Refusal) → judged l v c h ≡ None → Stepped l v c h r u → (r ≡ None) × (u ≡ next l None v c h)
   goes v u c h r e s = (s.answers ∙ e, s.leaves ∙ ap (λ j. next l j v c h) e)
 
-  run_onward : (hs : List Handed) (m : ℕ) (before : List Entry) (rows : List (List ℕ)) (places : ℕ) → Onward l before (map meant hs) → All Inside hs → length rows + length hs ≤ places → (rs : List (Option Refusal)) (w : Moment) → Ran l (moment (opened m) before rows places) (onward hs) rs w →
-      All (λ r. r ≡ None) rs × (w.state ≡ done) × (w.rows ≡ rows ++ rows_after l before (map meant hs))
+  run_onward : (hs : List Handed) (m : ℕ) (before : List Entry) (rows : List (List ℕ)) (places : ℕ) → Onward l before (map meant hs) → AllByRecursion Inside hs → length rows + length hs ≤ places → (rs : List (Option Refusal)) (w : Moment) → Ran l (moment (opened m) before rows places) (onward hs) rs w →
+      AllByRecursion (λ r. r ≡ None) rs × (w.state ≡ done) × (w.rows ≡ rows ++ rows_after l before (map meant hs))
   run_onward [] m before rows places o i room rs w ran = absurd o
   run_onward (h ∷ []) m before rows places o i room [] w ran = absurd ran
   run_onward (h ∷ []) m before rows places o i room (r ∷ (x ∷ rs)) w ran = absurd ran.2
@@ -51,8 +51,8 @@ module _ (l : Layout) where
       let rest = run_onward (y ∷ ys) h.mark (before ++ meant h ∷ []) (rows ++ row ∷ []) places o.1 i.1 (omega (arith, length_push rows row)) rs w (subst (λ z. Ran l z (onward (y ∷ ys)) rs w) g.1 ran.2) in
       ((g.0, rest.0), rest.1, rest.2 ∙ append_assoc rows (row ∷ []) (rows_after l (before ++ meant h ∷ []) (map meant (y ∷ ys))))
 
-  run_all : (hs : List Handed) (places : ℕ) → Legal l (map meant hs) → All Inside hs → length hs ≤ places → (rs : List (Option Refusal)) (w : Moment) → Ran l (beginning places) (in_order hs) rs w →
-      All (λ r. r ≡ None) rs × (w.state ≡ done) × (w.rows ≡ rows_of l (map meant hs))
+  run_all : (hs : List Handed) (places : ℕ) → Legal l (map meant hs) → AllByRecursion Inside hs → length hs ≤ places → (rs : List (Option Refusal)) (w : Moment) → Ran l (beginning places) (in_order hs) rs w →
+      AllByRecursion (λ r. r ≡ None) rs × (w.state ≡ done) × (w.rows ≡ rows_of l (map meant hs))
   run_all [] places o i room rs w ran = absurd o
   run_all (h ∷ hs) places o i room [] w ran = absurd ran
   run_all (h ∷ hs) places o i room (r ∷ rs) w ran =

@@ -1,9 +1,9 @@
 -- What holds at every moment of a life.
-use Rattle.std.proofs.Common.{◌≡◌, ℕ, Bool, true, false, cond, ltb, List, [], ◌∷◌, ◌++◌, length, Some, None, Option, sym, refl, ap, ◌∙◌, subst, append_assoc, append-nil}
+use Rattle.std.proofs.Common.{◌≡◌, ℕ, true, false, ltb, List, [], ◌∷◌, ◌++◌, length, Some, None, Option, sym, refl, ap, ◌∙◌, subst, append_assoc, append-nil}
 use Rattle.std.proofs.lemmas.Bool.{both_ways}
 use Rattle.refusals.specs.declared.table.Refusal.{Refusal}
 use Rattle.refusals.specs.Refusals.{refusal}
-use Rattle.refusals.specs.Faults.{unless, first_some}
+use Rattle.refusals.specs.Faults.{unless}
 use Rattle.layouts.specs.Layout.{Layout}
 use Rattle.records.specs.Row.{Entry}
 use Rattle.records.proofs.Options.{none_all, unless_true}
@@ -11,8 +11,8 @@ use Rattle.legality.specs.Before.{row_of, rows_after, rows_of}
 use Rattle.legality.specs.Checks.{Call, starts, adds, closes, checks_with, entry_fault}
 use Rattle.legality.specs.File.{Onward, Legal}
 use Rattle.records.specs.Entries.{Handed, meant, handed31}
-use Rattle.lives.specs.Draft.{State, fresh, opened, done, Moment, moment, allows, state_after, judged, next, Stepped}
-use Rattle.lives.specs.Life.{Life, begins, goes_on, taking, beginning}
+use Rattle.lives.specs.Draft.{State, fresh, opened, done, Moment, allows, state_after, judged, next, Stepped}
+use Rattle.lives.specs.Life.{Life, begins, goes_on, taking}
 use Rattle.lives.proofs.Handing.{taken_passes}
 
 module _ (l : Layout) where

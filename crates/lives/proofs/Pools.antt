@@ -1,6 +1,6 @@
 -- Every list of entries can be handed in: its texts one after the other in a pool.
-use Rattle.std.proofs.Common.{◌≡◌, ℕ, ◌+◌, ◌≤◌, true, List, [], ◌∷◌, ◌++◌, map, length, take, drop, sym, refl, ap, ◌∙◌, subst, append_assoc, arith}
-use Rattle.std.specs.List.{AllByRecursion as All}
+use Rattle.std.proofs.Common.{◌≡◌, ℕ, ◌+◌, ◌≤◌, true, List, [], ◌∷◌, ◌++◌, map, length, take, drop, refl, ap, ◌∙◌, subst, append_assoc, arith}
+use Rattle.std.specs.List.{AllByRecursion}
 use Rattle.std.proofs.lemmas.List.{length-append, take_at, drop_at}
 use Rattle.std.proofs.lemmas.Bool.{le-leb}
 use Rattle.fields.specs.Field.{Value, num, txt}
@@ -14,7 +14,7 @@ use Rattle.lives.specs.Life.{Inside}
 pub record Packed (pool : List ℕ) (vs : List Value) : Type 0 where
   pub given : List Given
   pub mean : map (value_of pool) given ≡ vs
-  pub lie : All (λ g. inside pool g ≡ true) given
+  pub lie : AllByRecursion (λ g. inside pool g ≡ true) given
 
 -- behind what stands in the pool already
 pack : (vs : List Value) (front : List ℕ) → (rest : List ℕ) × Packed (front ++ rest) vs
@@ -41,7 +41,7 @@ hand e =
     let p = pack e.values [] in
     (record { mark = e.mark; values = p.1.given; pool = p.0 }, ap (λ vs. record { mark = e.mark; values = vs }) p.1.mean, p.1.lie)
 
-pub hand_all : (es : List Entry) → (hs : List Handed) × (map meant hs ≡ es) × All Inside hs
+pub hand_all : (es : List Entry) → (hs : List Handed) × (map meant hs ≡ es) × AllByRecursion Inside hs
 hand_all [] = ([], refl, tt)
 hand_all (e ∷ es) =
     let h = hand e in

@@ -1,6 +1,6 @@
 -- Any type of drafts whose calls keep to these words: its lives, and THE EXCHANGE LAW about them.
-use Rattle.std.specs.Prelude.{◌≡◌, ℕ, ◌-◌, ◌<◌, ◌≤◌, List, [], ◌∷◌, map, length, get_or, Some, None, Ok, Option, slice_index_or}
-use Rattle.std.specs.List.{AllByRecursion as All}
+use Rattle.std.specs.Prelude.{◌≡◌, ℕ, ◌-◌, ◌<◌, ◌≤◌, List, [], ◌∷◌, map, length, get_or, None, Ok, Option, slice_index_or}
+use Rattle.std.specs.List.{AllByRecursion}
 use Rattle.refusals.specs.declared.table.Refusal.{Refusal}
 use Rattle.fields.specs.Field.{num}
 use Rattle.layouts.specs.Layout.{Layout}
@@ -56,6 +56,6 @@ pub record ExchangeOf (l : Layout) {D R : Type 0} (refused : R → Option Refusa
   -- take hands out that list's values from those rows
   pub hands : (es : List Entry) → Legal l es → (i n : ℕ) → i < length es → 0 < n → n ≤ length (get_or es i no_entry).values → take_value l (slice_index_or (rows_of l es) i []) n ≡ Ok (slice_index_or (get_or es i no_entry).values (n - 1) (num 0))
   -- every list of entries can be handed in
-  pub handed : (es : List Entry) → (hs : List Handed) × (map meant hs ≡ es) × All Inside hs
+  pub handed : (es : List Entry) → (hs : List Handed) × (map meant hs ≡ es) × AllByRecursion Inside hs
   -- and a fresh draft that is handed that list, from any pools, on an empty carrier with a place for each row takes every entry and closes on those rows
-  pub takes : (es : List Entry) → Legal l es → (hs : List Handed) → map meant hs ≡ es → All Inside hs → (d d' : D) (rs : List R) → Shows d (beginning (seen.places d)) → length es ≤ seen.places d → RanOf l refused Shows d (in_order hs) rs d' → All (λ r. refused r ≡ None) rs × (seen.state d' ≡ done) × (seen.rows d' ≡ rows_of l es)
+  pub takes : (es : List Entry) → Legal l es → (hs : List Handed) → map meant hs ≡ es → AllByRecursion Inside hs → (d d' : D) (rs : List R) → Shows d (beginning (seen.places d)) → length es ≤ seen.places d → RanOf l refused Shows d (in_order hs) rs d' → AllByRecursion (λ r. refused r ≡ None) rs × (seen.state d' ≡ done) × (seen.rows d' ≡ rows_of l es)

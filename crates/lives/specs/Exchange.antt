@@ -1,6 +1,6 @@
 -- THE EXCHANGE LAW of a lawful book.
-use Rattle.std.specs.Prelude.{◌≡◌, ℕ, ◌-◌, ◌<◌, ◌≤◌, List, [], ◌∷◌, map, length, get_or, Some, None, Ok, Option, slice_index_or}
-use Rattle.std.specs.List.{AllByRecursion as All}
+use Rattle.std.specs.Prelude.{◌≡◌, ℕ, ◌-◌, ◌<◌, ◌≤◌, List, [], map, length, get_or, None, Ok, Option, slice_index_or}
+use Rattle.std.specs.List.{AllByRecursion}
 use Rattle.refusals.specs.declared.table.Refusal.{Refusal}
 use Rattle.fields.specs.Field.{num}
 use Rattle.layouts.specs.Layout.{Layout}
@@ -24,9 +24,9 @@ pub record Exchange (l : Layout) : Type 0 where
   -- take hands out that list's values from those rows
   pub hands : (es : List Entry) → Legal l es → (i n : ℕ) → i < length es → 0 < n → n ≤ length (get_or es i no_entry).values → take_value l (slice_index_or (rows_of l es) i []) n ≡ Ok (slice_index_or (get_or es i no_entry).values (n - 1) (num 0))
   -- every list of entries can be handed in
-  pub handed : (es : List Entry) → (hs : List Handed) × (map meant hs ≡ es) × All Inside hs
+  pub handed : (es : List Entry) → (hs : List Handed) × (map meant hs ≡ es) × AllByRecursion Inside hs
   -- and a fresh draft that is handed that list, from any pools, with a place for each row takes every entry and closes on those rows
-  pub takes : (es : List Entry) → Legal l es → (hs : List Handed) → map meant hs ≡ es → All Inside hs → (places : ℕ) → length es ≤ places → (rs : List (Option Refusal)) (v : Moment) → Ran l (beginning places) (in_order hs) rs v → All (λ r. r ≡ None) rs × (v.state ≡ done) × (v.rows ≡ rows_of l es)
+  pub takes : (es : List Entry) → Legal l es → (hs : List Handed) → map meant hs ≡ es → AllByRecursion Inside hs → (places : ℕ) → length es ≤ places → (rs : List (Option Refusal)) (v : Moment) → Ran l (beginning places) (in_order hs) rs v → AllByRecursion (λ r. r ≡ None) rs × (v.state ≡ done) × (v.rows ≡ rows_of l es)
 
 abbrev pub ExchangeLaw : Type 0
 ExchangeLaw = (l : Layout) → Lawful l → Exchange l

@@ -1,6 +1,6 @@
 -- A draft's life: start, add and close alone, accepted and refused in any mixture.
-use Rattle.std.specs.Prelude.{◌≡◌, ℕ, Bool, true, List, [], ◌∷◌, ◌++◌, Some, None, Option}
-use Rattle.std.specs.List.{AllByRecursion as All}
+use Rattle.std.specs.Prelude.{◌≡◌, ℕ, true, List, [], ◌∷◌, ◌++◌, Some, None, Option}
+use Rattle.std.specs.List.{AllByRecursion}
 use Rattle.refusals.specs.declared.table.Refusal.{Refusal}
 use Rattle.layouts.specs.Layout.{Layout}
 use Rattle.records.specs.Row.{Entry}
@@ -49,4 +49,4 @@ Ran l v (q ∷ qs) (r ∷ rs) w = (u : Moment) × Stepped l v q.call q.handed r 
 
 -- no value lies past its pool
 abbrev pub Inside : Handed → Type 0
-Inside h = All (λ g. inside h.pool g ≡ true) h.values
+Inside h = AllByRecursion (λ g. inside h.pool g ≡ true) h.values

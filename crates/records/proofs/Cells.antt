@@ -1,18 +1,17 @@
 -- Fields one after the other read as their contents exactly when these print as them.
-use Rattle.std.proofs.Common.{◌≡◌, ℕ, suc, ◌+◌, Bool, true, false, cond, eqb, List, [], ◌∷◌, ◌++◌, map, length, get_or, take, drop, Some, None, Ok, Err, Option, Result, sym, refl, ap, ◌∙◌, subst, ⊎_elim, arith, length-append, take-append-drop}
-use Rattle.std.specs.List.{AllByRecursion as All}
+use Rattle.std.proofs.Common.{◌≡◌, ℕ, suc, ◌+◌, true, List, [], ◌∷◌, ◌++◌, length, take, drop, Some, None, Ok, Option, Result, sym, refl, ap, ◌∙◌, subst, arith, length-append, take-append-drop}
 use Rattle.std.proofs.lemmas.List.{length-take-le, length-drop, take_at, drop_at, nil_from_length}
-use Rattle.std.proofs.lemmas.Bool.{cases_Bool, eq-eqb}
+use Rattle.std.proofs.lemmas.Bool.{eq-eqb}
 use Rattle.fields.specs.declared.flaws.Flaw.{Flaw}
 use Rattle.fields.specs.declared.flaws.Flaw.TheVariants.{Unfit}
-use Rattle.refusals.specs.Faults.{Fault, fault, first_some, fault_in}
+use Rattle.refusals.specs.Faults.{Fault, fault, fault_in}
 use Rattle.fields.specs.Field.{Field, Family, fixed, digits, letters, long_digits, figured, family, Working, Value, num, txt, Cell, read_field, write_field, raw_write, write_long, fixed_in, num_in, txt_in, fits}
 use Rattle.fields.specs.Text.{write_text}
 use Rattle.fields.specs.InRow.{at_field}
 use Rattle.fields.proofs.Results.{err_ok, then_ok, ok_then, passed}
 use Rattle.fields.proofs.Fields.{field_law}
 use Rattle.records.specs.Cells.{read_cells, write_cells, Origin, of_book, entered, reckoned, is_num, is_txt, origin_at, origin, origins, cells, values_in, digits_in, sorts_asked, first_other, wrong_value, unworked, unprinted}
-use Rattle.records.proofs.Options.{some_none, two_none, none_two, fault_ok, ok_fault, at_ok, ok_at}
+use Rattle.records.proofs.Options.{two_none, none_two, fault_ok, ok_fault, at_ok, ok_at}
 
 abbrev pub widths : List Field → ℕ
 widths [] = 0

@@ -1,13 +1,13 @@
 -- A row of a known kind, judged field by field.
-use Rattle.std.proofs.Common.{◌≡◌, ℕ, ◌<◌, List, [], ◌∷◌, length, drop, Some, None, Ok, Err, Option, sym, refl, ap, ◌∙◌, subst, lit≤}
-use Rattle.std.specs.List.{AllByRecursion as All}
+use Rattle.std.proofs.Common.{◌≡◌, ℕ, ◌<◌, List, [], ◌∷◌, length, Some, None, Ok, Option, sym, refl, ap, ◌∙◌, subst, lit≤}
+use Rattle.std.specs.List.{AllByRecursion}
 use Rattle.refusals.specs.declared.table.Refusal.{Refusal}
 use Rattle.refusals.specs.Faults.{Fault, in_row, first_some, fault_in, ok_or, answer}
-use Rattle.fields.specs.Field.{Field, Cell}
+use Rattle.fields.specs.Field.{Field}
 use Rattle.layouts.specs.Layout.{Layout, field_at, kind_of}
 use Rattle.layouts.specs.Lawful.{NotWorked, Lawful}
 use Rattle.layouts.specs.declared.conditions.Condition.{Condition}
-use Rattle.records.specs.Cells.{origins, cells, values_in, digits_in, write_cells}
+use Rattle.records.specs.Cells.{cells, values_in, digits_in}
 use Rattle.records.specs.Conditions.{cell_at, broken, Named}
 use Rattle.records.specs.Row.{fields_of, origins_of, contents, mark10, conditions15, mark_of, cells_of, entry_of, digits_of, row_faults}
 use Rattle.records.specs.Held.{cell_in, cells_in, fields_fault, digits_held}
@@ -90,10 +90,10 @@ module _ (l : Layout) (law : Lawful l) (row : List ℕ) (n m : ℕ) (found : m �
       (e ∙ ap (in_row n) (ap (λ fs. fields_fault fs row) is ∙ sym (fault_held l law row kind_known)))
 
   module _ (cs : List Condition) (same : cs ≡ (kind_of l m).conditions) where
-    pub named : All (Named fs) cs
+    pub named : AllByRecursion (Named fs) cs
     named =
         let all = (lawful_kind l law (mark_of row) kind_known).0.conditions in
-        subst (λ fs. All (Named fs) cs) (sym is) (subst (All (Named (fields_of l (mark_of row)))) (sym (same ∙ ap (λ m. (kind_of l m).conditions) found)) all)
+        subst (λ fs. AllByRecursion (Named fs) cs) (sym is) (subst (AllByRecursion (Named (fields_of l (mark_of row)))) (sym (same ∙ ap (λ m. (kind_of l m).conditions) found)) all)
 
     pub at_conditions : length row ≡ 750 → None ≡ in_row n (fields_fault fs row) → (o : Option Refusal) → o ≡ in_row n (broken fs (cells_in fs row) cs) → o ≡ in_row n (first_some (row_faults l row))
     at_conditions len good o e =

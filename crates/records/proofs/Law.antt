@@ -1,6 +1,6 @@
 -- A row reads as an entry exactly when the entry prints as it.
-use Rattle.std.proofs.Common.{◌≡◌, ℕ, ◌+◌, Bool, true, false, cond, eqb, List, [], ◌∷◌, ◌++◌, length, get_or, Some, None, Ok, Err, Option, Result, sym, refl, ap, ◌∙◌, subst, ⊎_elim, arith}
-use Rattle.std.specs.List.{AllByRecursion as All}
+use Rattle.std.proofs.Common.{◌≡◌, ℕ, ◌+◌, eqb, List, [], ◌∷◌, ◌++◌, length, Some, None, Ok, Result, sym, ap, ◌∙◌, subst, ⊎_elim, arith}
+use Rattle.std.specs.List.{AllByRecursion}
 use Rattle.std.proofs.lemmas.Bool.{cases_Bool, eqb-true}
 use Rattle.fields.specs.declared.flaws.Flaw.TheVariants.{Unfit}
 use Rattle.refusals.specs.Faults.{fault, first_some, ok_or}
@@ -9,12 +9,12 @@ use Rattle.fields.specs.InRow.{at_field}
 use Rattle.fields.proofs.Results.{err_ok, then_ok, passed}
 use Rattle.layouts.specs.Layout.{Layout, Kind, found, or_none, kind_of}
 use Rattle.layouts.specs.Lawful.{Covers, Begins, Lawful, LawfulKind}
-use Rattle.records.specs.Cells.{read_cells, write_cells, cells, origins, values_in, digits_in, sorts_asked, wrong_value, unprinted}
-use Rattle.records.specs.Row.{Entry, Reading, fields_of, origins_of, has_mark, mark10, contents, conditions15, Acceptable, print_row, mark_of, cells_of, entry_of, digits_of, row_faults, read_row, RowLaw, RowsKeepTheLaw, OneEntry, EqualRows}
+use Rattle.records.specs.Cells.{read_cells, write_cells, cells, values_in, digits_in, sorts_asked, wrong_value, unprinted}
+use Rattle.records.specs.Row.{Entry, Reading, fields_of, origins_of, has_mark, mark10, conditions15, Acceptable, print_row, mark_of, cells_of, entry_of, digits_of, row_faults, read_row, RowLaw, RowsKeepTheLaw, OneEntry, EqualRows}
 use Rattle.records.proofs.Options.{some_none, none_all, all_none, answered, answers, ok_fault, fault_ok, at_ok}
 use Rattle.records.proofs.Cells.{widths, cells_write, cells_read, shaped, dealt_again, gathered, none_wrong, alike, all_printed}
 
-pub kind_found : (P : Kind → Type 0) (ks : List Kind) (m : ℕ) → All P ks → has_mark (found m ks) ≡ None → P (or_none (found m ks)) × ((or_none (found m ks)).mark ≡ m)
+pub kind_found : (P : Kind → Type 0) (ks : List Kind) (m : ℕ) → AllByRecursion P ks → has_mark (found m ks) ≡ None → P (or_none (found m ks)) × ((or_none (found m ks)).mark ≡ m)
 kind_found P [] m h e = some_none e
 kind_found P (k ∷ ks) m h e =
     ⊎_elim

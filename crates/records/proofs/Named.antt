@@ -1,8 +1,8 @@
 -- Conditions look at no worked field: contents that differ in worked fields only break the same conditions.
-use Rattle.std.proofs.Common.{◌≡◌, ℕ, zero, suc, ◌+◌, ◌<◌, Bool, cond, not, ◌&&◌, ◌||◌, eqb, leb, List, [], ◌∷◌, length, Some, refl, ap, ◌∙◌, le_of_suc-le-suc, not-suc-le-zero, arith}
-use Rattle.std.specs.List.{AllByRecursion as All}
+use Rattle.std.proofs.Common.{◌≡◌, ℕ, zero, suc, ◌+◌, ◌<◌, cond, not, ◌&&◌, ◌||◌, eqb, leb, List, [], ◌∷◌, length, Some, refl, ap, ◌∙◌, le_of_suc-le-suc, not-suc-le-zero, arith}
+use Rattle.std.specs.List.{AllByRecursion}
 use Rattle.refusals.specs.Faults.{fault}
-use Rattle.fields.specs.Field.{Field, Sort, constant, blank, text, word, number, code, date, amount, long, worked, Working, Cell, family, filled}
+use Rattle.fields.specs.Field.{Field, Sort, constant, blank, text, word, number, code, date, amount, long, worked, Cell, family, filled}
 use Rattle.layouts.specs.Layout.{field_at}
 use Rattle.layouts.specs.Lawful.{CodeSort, NotWorked, NamesPremise, NamesClaim}
 use Rattle.layouts.specs.declared.conditions.Condition.{Condition}
@@ -10,7 +10,7 @@ use Rattle.layouts.specs.declared.conditions.Premise.{Premise}
 use Rattle.layouts.specs.declared.conditions.Premise.TheVariants.{Always, IfCode, IfEither, IfFilled}
 use Rattle.layouts.specs.declared.conditions.Claim.{Claim}
 use Rattle.layouts.specs.declared.conditions.Claim.TheVariants.{IsFilled, NotFilled, IsCode, AtMost, Short, ShortBoth}
-use Rattle.records.specs.Cells.{origin_at, origin, origins}
+use Rattle.records.specs.Cells.{origin_at, origins}
 use Rattle.records.specs.Conditions.{number_in, text_in, cell_at, number_at, premise_holds, claim_holds, breaks, highest_start, broken, Named}
 use Rattle.records.proofs.Cells.{AlikeAt, Alike}
 
@@ -70,7 +70,7 @@ module _ (fs : List Field) (cs ds : List Cell) (a : Alike (origins fs) cs ds) wh
   claim_same (Short i n) h = ap (λ c. leb (length (text_in c)) n) (text_same i h)
   claim_same (ShortBoth i j n) h = ap (λ c. leb (length (text_in c) + length (text_in (cell_at cs j))) n) (text_same i h.0) ∙ ap (λ c. leb (length (text_in (cell_at ds i)) + length (text_in c)) n) (text_same j h.1)
 
-  pub broken_same : (conditions : List Condition) → All (Named fs) conditions → broken fs cs conditions ≡ broken fs ds conditions
+  pub broken_same : (conditions : List Condition) → AllByRecursion (Named fs) conditions → broken fs cs conditions ≡ broken fs ds conditions
   broken_same [] h = refl
   broken_same (c ∷ rest) h =
       ap (λ b. cond (b && not (claim_holds fs cs c.claim)) (Some (fault 15 (highest_start fs c))) (broken fs cs rest)) (premise_same c.premise h.0.0)

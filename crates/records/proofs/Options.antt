@@ -1,5 +1,5 @@
 -- Answers and refusals.
-use Rattle.std.proofs.Common.{◌≡◌, ℕ, Bool, true, false, cond, List, [], ◌∷◌, Some, None, Ok, Err, Option, Result, sym, refl, ap, ◌∙◌, subst, arith}
+use Rattle.std.proofs.Common.{◌≡◌, ℕ, Bool, true, false, List, [], ◌∷◌, Some, None, Ok, Err, Option, Result, sym, refl, ap, subst, arith}
 use Rattle.fields.specs.declared.flaws.Flaw.{Flaw}
 use Rattle.refusals.specs.Faults.{Fault, in_row, unless, first_some, fault_in, answer}
 use Rattle.fields.specs.Field.{Field}

@@ -1,5 +1,5 @@
 -- The fields of a kind, one after the other: what their bytes read as, what their contents print as, and how an entry's values and the worked numbers stand in them.
-use Rattle.std.specs.Prelude.{◌≡◌, ℕ, ◌+◌, min, Bool, true, false, cond, List, [], ◌∷◌, ◌++◌, map, length, take, drop, Some, None, Ok, Err, Option, Result, ◌==◌}
+use Rattle.std.specs.Prelude.{ℕ, ◌+◌, min, Bool, true, false, cond, List, [], ◌∷◌, ◌++◌, map, length, take, drop, Some, None, Ok, Err, Option, Result, ◌==◌}
 use Rattle.refusals.specs.Faults.{Fault, fault, and_then, first_some, fault_in}
 use Rattle.fields.specs.Field.{Field, Family, fixed, digits, letters, long_digits, figured, family, Working, Value, num, txt, Cell, read_field, write_field}
 use Rattle.fields.specs.InRow.{at_field}

@@ -1,7 +1,7 @@
 -- The conditions of a kind, on what its fields hold.
-use Rattle.std.specs.Prelude.{ℕ, ◌+◌, max, Bool, true, false, cond, not, ◌&&◌, ◌||◌, List, [], ◌∷◌, length, Some, None, Option, ◌==◌, nat_le, slice_index_or}
+use Rattle.std.specs.Prelude.{ℕ, ◌+◌, max, Bool, true, cond, not, ◌&&◌, ◌||◌, List, [], ◌∷◌, length, Some, None, Option, ◌==◌, nat_le, slice_index_or}
 use Rattle.refusals.specs.Faults.{Fault, fault}
-use Rattle.fields.specs.Field.{Field, Value, num, txt, Cell, family, filled}
+use Rattle.fields.specs.Field.{Field, num, txt, Cell, family, filled}
 use Rattle.layouts.specs.Layout.{field_at}
 use Rattle.layouts.specs.Lawful.{NamesPremise, NamesClaim}
 use Rattle.layouts.specs.declared.conditions.Condition.{Condition}

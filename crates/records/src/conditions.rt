@@ -1,6 +1,6 @@
 // Conditions between the fields of a row.
 ghost use Rattle.std.specs.Prelude.{◌≡◌, ◌^◌, ◌<◌, map, length};
-ghost use Rattle.std.specs.List.{AllByRecursion as All};
+ghost use Rattle.std.specs.List.{AllByRecursion};
 ghost use Rattle.refusals.specs.Refusals.{refusal_in, of_row};
 ghost use Rattle.refusals.specs.Faults.{in_row};
 ghost use Rattle.fields.specs.Meaning.{field_of};
@@ -126,7 +126,7 @@ pub(crate) fn check_conditions(
     row_number: usize,
     row: &[u8; 750],
 ) -> Result<(), RowFault>
-    requires { All (Named (map field_of fields.now)) conditions.now }
+    requires { AllByRecursion (Named (map field_of fields.now)) conditions.now }
     ensures { refusal_in of_row result ≡ in_row row_number (broken (map field_of fields.now) (cells_in (map field_of fields.now) row.now) conditions.now) }
 {
     for condition in conditions {

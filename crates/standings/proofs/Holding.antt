@@ -1,14 +1,14 @@
 -- What single fields of a good row hold: what the row's entry has there.
-use Rattle.std.proofs.Common.{◌≡◌, ℕ, ◌<◌, Bool, true, false, cond, eqb, List, [], ◌∷◌, map, length, Some, None, Option, sym, refl, ap, ◌∙◌, subst, arith}
+use Rattle.std.proofs.Common.{◌≡◌, ℕ, ◌<◌, cond, List, length, Some, None, Option, sym, ap, ◌∙◌, subst, arith}
 use Rattle.std.proofs.lemmas.Bool.{eq-eqb}
-use Rattle.fields.specs.Field.{Sort, text, code, amount, worked, Working}
-use Rattle.layouts.specs.Layout.{Layout, Place, field_at, kind_of}
-use Rattle.layouts.specs.Lawful.{NotWorked, Names, CodeSort, Has, Lawful}
-use Rattle.layouts.specs.Meaning.{place_in, place_of}
+use Rattle.fields.specs.Field.{Sort, text, amount}
+use Rattle.layouts.specs.Layout.{Layout, Place, field_at}
+use Rattle.layouts.specs.Lawful.{NotWorked, Names, CodeSort, Lawful}
+use Rattle.layouts.specs.Meaning.{place_in}
 use Rattle.layouts.specs.declared.kinds.Place as program
 use Rattle.records.specs.Conditions.{number_in, cell_at, number_at}
 use Rattle.records.specs.Held.{cell_in, fields_fault, digits_held}
-use Rattle.records.specs.Row.{Entry, fields_of, contents, mark10, mark_of, entry_of, digits_of, row_faults}
+use Rattle.records.specs.Row.{fields_of, contents, mark10, mark_of, entry_of, digits_of, row_faults}
 use Rattle.records.proofs.Options.{some_none, none_all}
 use Rattle.records.proofs.Judged.{fault_held, held_entered, held_worked}
 use Rattle.legality.specs.Before.{amount_at}

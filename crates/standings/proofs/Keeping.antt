@@ -1,11 +1,11 @@
 -- What the record says of every list that it stands for.
-use Rattle.std.proofs.Common.{◌≡◌, ℕ, zero, suc, ◌+◌, ◌%◌, ◌^◌, ◌<◌, ◌≤◌, Bool, true, false, cond, eqb, ltb, List, [], ◌∷◌, ◌++◌, length, drop, Some, None, Option, sym, refl, ap, ◌∙◌, subst, ⊎_elim, arith}
+use Rattle.std.proofs.Common.{◌≡◌, ℕ, zero, suc, ◌+◌, ◌%◌, ◌^◌, ◌<◌, ◌≤◌, true, false, cond, List, [], ◌∷◌, ◌++◌, length, drop, Some, None, Option, sym, refl, ap, ◌∙◌, subst, arith}
 use Rattle.std.proofs.lemmas.List.{length_push}
 use Rattle.std.proofs.lemmas.Bool.{eqb-true, eq-eqb, lt-ltb, le-ltb, cond-true, cond-false}
 use Rattle.refusals.specs.declared.table.Refusal.{Refusal}
 use Rattle.refusals.specs.Refusals.{refusal}
 use Rattle.refusals.specs.Faults.{Fault, in_row}
-use Rattle.fields.specs.Field.{text, any_of}
+use Rattle.fields.specs.Field.{any_of}
 use Rattle.layouts.specs.Layout.{Layout, Group, field_at}
 use Rattle.layouts.specs.Lawful.{Lawful}
 use Rattle.layouts.specs.Meaning.{group_in, owns, follows}
@@ -19,12 +19,11 @@ use Rattle.records.specs.Row.{Entry, fields_of, origins_of, contents, mark_of, e
 use Rattle.records.proofs.Options.{some_none}
 use Rattle.standings.specs.declared.owner.Owner.{Owner}
 use Rattle.standings.specs.declared.progress.Progress.{Progress}
-use Rattle.legality.specs.Before.{last_place, owner_place, no_entry, owner_of, count_of, followers, amount_at, sum_of}
+use Rattle.legality.specs.Before.{last_place, owner_place, no_entry, owner_of, count_of, amount_at, sum_of}
 use Rattle.legality.specs.Checks.{bound, tied, owner22, summed_start, sum26}
-use Rattle.legality.specs.Progress as s
-use Rattle.legality.specs.Progress.{last_mark, owner_in, followers_in, progress_of}
-use Rattle.standings.specs.Standing.{mark_in, number_in, entry_in, said, Good, GoodOwner, KeptOwner, Stands, Next}
-use Rattle.legality.proofs.Reckoning.{last_within, count_within}
+use Rattle.legality.specs.Progress.{owner_in, followers_in}
+use Rattle.standings.specs.Standing.{mark_in, number_in, entry_in, Good, GoodOwner, KeptOwner, Stands, Next}
+use Rattle.legality.proofs.Reckoning.{count_within}
 use Rattle.legality.proofs.Advance.{sum_push, count_push, mark_push, at_push, owner_push, following_push, record_is}
 use Rattle.standings.proofs.Holding.{text_unworked, code_unworked, holds}
 

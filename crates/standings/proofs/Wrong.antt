@@ -1,8 +1,8 @@
 -- Looking for the first worked field that is wrong.
-use Rattle.std.proofs.Common.{◌≡◌, ℕ, ◌+◌, ◌<◌, Bool, true, false, cond, not, ◌&&◌, eqb, List, [], ◌∷◌, map, length, get_or, drop, Some, None, Option, sym, refl, ap, ◌∙◌}
+use Rattle.std.proofs.Common.{◌≡◌, ℕ, ◌+◌, ◌<◌, Bool, true, false, cond, not, ◌&&◌, eqb, List, [], ◌∷◌, map, length, get_or, drop, Some, Option, sym, refl, ap, ◌∙◌}
 use Rattle.std.proofs.lemmas.List.{at_drop_more}
 use Rattle.refusals.specs.Faults.{Fault, fault}
-use Rattle.fields.specs.Field.{Field, Family, fixed, digits, letters, long_digits, figured, family, Working}
+use Rattle.fields.specs.Field.{Family, fixed, digits, letters, long_digits, figured, family, Working}
 use Rattle.fields.specs.Meaning.{field_of}
 use Rattle.fields.specs.declared.field.Field as program
 use Rattle.records.specs.Cells.{Origin, of_book, entered, reckoned, origin_at, origin, origins}

@@ -1,5 +1,5 @@
 -- Which lists of entries the program's record stands for. Nothing else in these definitions knows that record.
-use Rattle.std.specs.Prelude.{◌≡◌, ℕ, ◌+◌, ◌≤◌, Bool, true, List, length, Some, None, Option}
+use Rattle.std.specs.Prelude.{◌≡◌, ℕ, ◌+◌, ◌≤◌, true, List, length, Some, None, Option}
 use Rattle.refusals.specs.Faults.{first_some}
 use Rattle.layouts.specs.declared.kinds.Kind.{Kind}
 use Rattle.layouts.specs.Layout.{Layout}

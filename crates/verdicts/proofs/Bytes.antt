@@ -1,6 +1,6 @@
 -- A row that a book reads holds bytes: what is read of a field are printable characters.
 use Rattle.std.proofs.Common.{◌≡◌, ℕ, zero, suc, ◌+◌, ◌-◌, ◌<◌, ◌≤◌, Bool, true, false, not, ◌&&◌, ◌||◌, eqb, leb, List, [], ◌∷◌, ◌++◌, length, get_or, take, drop, replicate, None, Ok, Result, sym, refl, ap, ◌∙◌, subst, ⊎_elim, arith}
-use Rattle.std.specs.List.{AllByRecursion as All}
+use Rattle.std.specs.List.{AllByRecursion}
 use Rattle.std.proofs.lemmas.List.{take-append-drop, length-drop, nil_from_length, get_or_past}
 use Rattle.std.proofs.ByRecursion.{All-get_or, All-from_get_or, All-append, All-weaker}
 use Rattle.std.proofs.lemmas.Bool.{cases_lt, not-false, or_parts, and_parts, leb-true, eqb-true}
@@ -28,21 +28,21 @@ abbrev pub Small : ℕ → Type 0
 Small b = b < 256
 
 -- what a check hands on passes it at each place
-each : (flaw : ℕ → Flaw) (bad : ℕ → ℕ → Bool) (bs cs : List ℕ) → checked flaw bad bs ≡ Ok cs → ((k b : ℕ) → bad k b ≡ false → Small b) → All Small bs
+each : (flaw : ℕ → Flaw) (bad : ℕ → ℕ → Bool) (bs cs : List ℕ) → checked flaw bad bs ≡ Ok cs → ((k b : ℕ) → bad k b ≡ false → Small b) → AllByRecursion Small bs
 each flaw bad bs cs e fine =
     let none = (ok_checked bad flaw bs cs e).0 in
     All-from_get_or Small bs 0 (λ i l. fine i (get_or bs i 0) (none_in bad bs none i l))
 
-fixed_small : (c bs cs : List ℕ) → All Small c → checked Differs (differs c) bs ≡ Ok cs → All Small bs
+fixed_small : (c bs cs : List ℕ) → AllByRecursion Small c → checked Differs (differs c) bs ≡ Ok cs → AllByRecursion Small bs
 fixed_small c bs cs h e = each Differs (differs c) bs cs e (λ k b f. subst Small (sym (eqb-true b (get_or c k 32) (not-false _ f))) (at k))
   where
     at : (k : ℕ) → Small (get_or c k 32)
     at k = ⊎_elim (λ l. All-get_or Small c k 32 l h) (λ l. subst Small (sym (get_or_past c k 32 l)) (omega arith)) (cases_lt k (length c))
 
-digits_small : (bs cs : List ℕ) → check_digits bs ≡ Ok cs → All Small bs
+digits_small : (bs cs : List ℕ) → check_digits bs ≡ Ok cs → AllByRecursion Small bs
 digits_small bs cs e = each Byte no_digit bs cs e (λ k b f. let d = is_digit k b f in omega (arith, d.1))
 
-text_small : (bs cs : List ℕ) → read_text bs ≡ Ok cs → All Small bs
+text_small : (bs cs : List ℕ) → read_text bs ≡ Ok cs → AllByRecursion Small bs
 text_small bs cs e =
     let t = trimmed bs in
     let front = each Byte (bad_text (length t)) t cs e (λ k b f.
@@ -50,19 +50,19 @@ text_small bs cs e =
     let q = and_parts (leb 32 b) (leb b 126) (not-false _ p.0) in
     let m = leb-true b 126 q.1 in
     omega (arith, m)) in
-    subst (All Small) (padded-trimmed bs) (All-append Small t (replicate (length bs - length t) 32) front (blanks (length bs - length t)))
+    subst (AllByRecursion Small) (padded-trimmed bs) (All-append Small t (replicate (length bs - length t) 32) front (blanks (length bs - length t)))
   where
-    blanks : (n : ℕ) → All Small (replicate n 32)
+    blanks : (n : ℕ) → AllByRecursion Small (replicate n 32)
     blanks zero = tt
     blanks (suc n) = (omega arith, blanks n)
 
-number_small : (bs : List ℕ) (v : Cell) → as_num (read_number bs) ≡ Ok v → All Small bs
+number_small : (bs : List ℕ) (v : Cell) → as_num (read_number bs) ≡ Ok v → AllByRecursion Small bs
 number_small bs v e =
     let p = then_ok (read_number bs) _ v e in
     let q = then_ok (check_digits bs) _ p.0 p.1 in
     digits_small bs q.0 q.1
 
-raw_small : (a : Family) (bs : List ℕ) (v : Cell) → ((c : List ℕ) → a ≡ fixed c → All Small c) → raw_read a bs ≡ Ok v → All Small bs
+raw_small : (a : Family) (bs : List ℕ) (v : Cell) → ((c : List ℕ) → a ≡ fixed c → AllByRecursion Small c) → raw_read a bs ≡ Ok v → AllByRecursion Small bs
 raw_small (fixed c) bs v h e = let p = then_ok (checked Differs (differs c) bs) _ v e in fixed_small c bs p.0 (h c refl) p.1
 raw_small digits bs v h e = number_small bs v e
 raw_small letters bs v h e = let p = then_ok (read_text bs) _ v e in text_small bs p.0 p.1
@@ -70,9 +70,9 @@ raw_small long_digits bs v h e = let p = then_ok (check_digits bs) _ v e in digi
 raw_small (figured k) bs v h e = number_small bs v e
 
 -- a lawful constant
-contents_small : (s : Sort) → ((c : List ℕ) → s ≡ constant c → All Small c) → (c : List ℕ) → family s ≡ fixed c → All Small c
-contents_small (constant d) h c e = let is : d ≡ c = cc in subst (All Small) is (h d refl)
-contents_small blank h c e = let is : [] ≡ c = cc in subst (All Small) is tt
+contents_small : (s : Sort) → ((c : List ℕ) → s ≡ constant c → AllByRecursion Small c) → (c : List ℕ) → family s ≡ fixed c → AllByRecursion Small c
+contents_small (constant d) h c e = let is : d ≡ c = cc in subst (AllByRecursion Small) is (h d refl)
+contents_small blank h c e = let is : [] ≡ c = cc in subst (AllByRecursion Small) is tt
 contents_small text h c e = let z : ◌≡◌ {A = ℕ} 0 1 = cc in absurd (omega arith)
 contents_small (word us) h c e = let z : ◌≡◌ {A = ℕ} 0 1 = cc in absurd (omega arith)
 contents_small number h c e = let z : ◌≡◌ {A = ℕ} 0 1 = cc in absurd (omega arith)
@@ -82,25 +82,25 @@ contents_small amount h c e = let z : ◌≡◌ {A = ℕ} 0 1 = cc in absurd (om
 contents_small long h c e = let z : ◌≡◌ {A = ℕ} 0 1 = cc in absurd (omega arith)
 contents_small (worked k) h c e = let z : ◌≡◌ {A = ℕ} 0 1 = cc in absurd (omega arith)
 
-field_small : (f : Field) (bs : List ℕ) (v : Cell) → Contents f → read_field f bs ≡ Ok v → All Small bs
+field_small : (f : Field) (bs : List ℕ) (v : Cell) → Contents f → read_field f bs ≡ Ok v → AllByRecursion Small bs
 field_small f bs v lawful e =
     let p = passed (fits f) Unfit _ v e in
     let q = then_ok (raw_read (family f.sort) bs) _ v p.1 in
     let printable = λ (c : List ℕ) (is : f.sort ≡ constant c). All-weaker (Between 32 126) Small (λ b h. omega (arith, h.1)) c (lawful.constants c is).0 in
     raw_small (family f.sort) bs q.0 (contents_small f.sort printable) q.1
 
-cells_small : (fs : List Field) (bs : List ℕ) (cs : List Cell) → All Contents fs → length bs ≡ widths fs → read_cells fs bs ≡ Ok cs → All Small bs
-cells_small [] bs cs h l e = subst (All Small) (sym (nil_from_length bs l)) tt
+cells_small : (fs : List Field) (bs : List ℕ) (cs : List Cell) → AllByRecursion Contents fs → length bs ≡ widths fs → read_cells fs bs ≡ Ok cs → AllByRecursion Small bs
+cells_small [] bs cs h l e = subst (AllByRecursion Small) (sym (nil_from_length bs l)) tt
 cells_small (f ∷ fs) bs cs h l e =
     let p = then_ok (at_field f (read_field f (take f.width bs))) _ cs e in
     let q = then_ok (read_cells fs (drop f.width bs)) _ cs p.2 in
     let r : length (drop f.width bs) ≡ widths fs = omega (arith, length-drop f.width bs) in
     let first = field_small f (take f.width bs) p.0 h.0 (at_ok f _ p.0 p.1) in
     let rest = cells_small fs (drop f.width bs) q.0 h.1 r q.1 in
-    subst (All Small) (take-append-drop f.width bs) (All-append Small (take f.width bs) (drop f.width bs) first rest)
+    subst (AllByRecursion Small) (take-append-drop f.width bs) (All-append Small (take f.width bs) (drop f.width bs) first rest)
 
 -- a row that is read as an entry holds bytes
-pub row_small : (l : Layout) → Lawful l → (row : List ℕ) → length row ≡ 750 → first_some (row_faults l row) ≡ None → All Small row
+pub row_small : (l : Layout) → Lawful l → (row : List ℕ) → length row ≡ 750 → first_some (row_faults l row) ≡ None → AllByRecursion Small row
 row_small l law row full sound =
     let n = none_all (row_faults l row) sound in
     let m = mark_of row in

@@ -1,6 +1,6 @@
 -- The law of the line.
 use Rattle.std.proofs.Common.{◌≡◌, ℕ, suc, ◌+◌, ◌-◌, ◌*◌, ◌/◌, ◌%◌, ◌^◌, ◌<◌, ◌≤◌, ltb, ◌⊎◌, List, [], ◌∷◌, ◌++◌, length, get_or, take, drop, Some, None, Ok, Err, Option, Result, sym, refl, ap, ◌∙◌, subst, inl, inr, ⊎_elim, arith}
-use Rattle.std.specs.List.{flat_map, AllByRecursion as All}
+use Rattle.std.specs.List.{flat_map, AllByRecursion}
 use Rattle.std.proofs.ByRecursion.{All-get_or, All-from_get_or}
 use Rattle.std.proofs.lemmas.Bool.{cases_lt, cond_both, ltb-true, lt-ltb}
 use Rattle.std.proofs.lemmas.List.{length-drop, get_or_past}
@@ -60,7 +60,7 @@ length-rows l before (e ∷ es) = ap suc (length-rows l (before ++ e ∷ []) es)
 legal_rows : (l : Layout) → Lawful l → (es : List Entry) → Legal l es → Whole (rows_of l es) × OfBytes (rows_of l es)
 legal_rows l law es legal =
     let rows = rows_of l es in
-    let sound : All (Sound l law) rows = (legal_shows l law es legal).0 in
+    let sound : AllByRecursion (Sound l law) rows = (legal_shows l law es legal).0 in
     let at = λ (k : ℕ) (h : k < length rows). All-get_or (Sound l law) rows k [] h sound in (
       (λ k h. (at k h).0),
       (λ k h i.

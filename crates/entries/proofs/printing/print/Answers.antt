@@ -1,5 +1,4 @@
 use Rattle.std.proofs.Common.{◌≡◌, ℕ, map, Some, None, Option, sym, refl, ap, ◌∙◌, subst}
-use Rattle.fields.specs.Meaning.{field_of}
 use Rattle.layouts.specs.Lawful.{Covers}
 use Rattle.records.specs.Cells.{origins, sorts_asked, wrong_value}
 use Rattle.records.specs.Entries.{suits, value_fault}

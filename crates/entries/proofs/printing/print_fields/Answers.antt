@@ -1,9 +1,9 @@
-use Rattle.std.proofs.Common.{sym, ap, ◌∙◌, arith}
+use Rattle.std.proofs.Common.{sym, ap, arith}
 use Rattle.std.proofs.lemmas.Result.{err_from_is_err_and}
 use Rattle.refusals.specs.Faults.{in_row, fault_in}
 use Rattle.fields.specs.Meaning.{cell_of}
 use Rattle.records.specs.Worked.{worked_of}
-use Rattle.entries.proofs.Prints.{Printing, printing_none, printing_all, printing_ready, printing_refused, printing_next}
+use Rattle.entries.proofs.Prints.{printing_none, printing_all, printing_ready, printing_refused, printing_next}
 use Rattle.entries.proofs.printing.print_fields.Goals as goal
 
 pub loop-field-init : goal.loop-field-init

@@ -1,4 +1,4 @@
-use Rattle.std.proofs.Common.{◌≡◌, ℕ, ◌+◌, ◌-◌, ◌≤◌, List, length, take, Some, sym, refl, ap, ◌∙◌, subst, arith}
+use Rattle.std.proofs.Common.{◌≡◌, ℕ, ◌+◌, ◌-◌, List, length, take, Some, sym, refl, ap, ◌∙◌, subst, arith}
 use Rattle.fields.specs.Field as s
 use Rattle.fields.specs.InRow.{part}
 use Rattle.fields.specs.Meaning.{field_of}

@@ -1,6 +1,5 @@
-use Rattle.std.proofs.Common.{◌≡◌, ◌+◌, Some, sym, ap, ◌∙◌}
+use Rattle.std.proofs.Common.{◌+◌, Some, sym, ap, ◌∙◌}
 use Rattle.refusals.specs.Refusals.{refusal}
-use Rattle.fields.specs.Field as s
 use Rattle.entries.specs.Asked.{asked_by}
 use Rattle.records.specs.Cells.{origins, sorts_asked}
 use Rattle.records.specs.Entries.{value_fault}

@@ -1,4 +1,4 @@
-use Rattle.std.proofs.Common.{sym, refl, ap, ◌∙◌, rules}
+use Rattle.std.proofs.Common.{refl, ap, ◌∙◌, rules}
 use Rattle.records.specs.Conditions.{number_in}
 use Rattle.records.specs.Held.{cell_in}
 use Rattle.standings.proofs.Holding.{amount_held}

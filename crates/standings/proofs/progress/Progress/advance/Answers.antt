@@ -1,4 +1,4 @@
-use Rattle.std.proofs.Common.{sym, refl, ap, ◌∙◌, subst}
+use Rattle.std.proofs.Common.{sym, refl, ap, subst}
 use Rattle.records.specs.Row.{entry_of}
 use Rattle.standings.proofs.Keeping.{OwnerAfter, owner_new, owner_old, advanced}
 use Rattle.standings.proofs.progress.Progress.advance.Goals as goal
