@@ -1,5 +1,5 @@
 -- What each check of an admitted entry's row comes to, in the words of the entry.
-use Rattle.std.proofs.Common.{◌≡◌, ℕ, ◌+◌, ◌^◌, ◌<◌, ◌≤◌, List, [], ◌∷◌, ◌++◌, length, Some, None, Ok, Option, sym, refl, ap, ◌∙◌, subst, arith}
+use Rattle.std.proofs.Common.{◌≡◌, ℕ, ◌+◌, ◌^◌, ◌<◌, ◌≤◌, List, [], ◌∷◌, ◌++◌, length, None, Ok, Option, sym, ap, ◌∙◌, subst, arith}
 use native.Mathlib.Nat.{pow-le-pow_right}
 use Rattle.std.proofs.lemmas.Bool.{ltb-true}
 use Rattle.refusals.specs.declared.table.Refusal.{Refusal}
@@ -8,12 +8,12 @@ use Rattle.fields.specs.Field.{Working, number_of_row, number_of_owner, total, c
 use Rattle.layouts.specs.Layout.{Layout}
 use Rattle.layouts.specs.Lawful.{Lawful, WorkedWide}
 use Rattle.records.specs.declared.entries.Worked.{Worked}
-use Rattle.records.specs.Row.{Entry, origins_of, mark10, values31, fields11, conditions15, print_row, entry_of, mark_of, row_faults}
+use Rattle.records.specs.Row.{origins_of, mark10, values31, fields11, conditions15, print_row, entry_of, mark_of, row_faults}
 use Rattle.records.specs.Entries.{Handed, meant, handed31, value_fault}
 use Rattle.records.specs.Worked.{worked_of, reckoned_by}
-use Rattle.records.proofs.Options.{in_none, no_fault, unless_true, ok_fault}
+use Rattle.records.proofs.Options.{in_none, no_fault, unless_true}
 use Rattle.records.proofs.Law.{Printed, printed}
-use Rattle.legality.specs.Before.{reckon, row_of, sum_of}
+use Rattle.legality.specs.Before.{reckon, sum_of}
 use Rattle.legality.specs.Checks.{owner22, sum26}
 use Rattle.standings.specs.Standing.{Good}
 use Rattle.legality.proofs.Reckoning.{reckon_fits}

@@ -1,5 +1,5 @@
 -- What the reader answers on rows that a draft has written.
-use Rattle.std.proofs.Common.{◌≡◌, ℕ, ◌<◌, List, [], length, get_or, Ok, sym, ap, ◌∙◌}
+use Rattle.std.proofs.Common.{◌≡◌, ℕ, ◌<◌, List, [], length, get_or, Ok, ap, ◌∙◌}
 use Rattle.refusals.specs.Refusals.{refusal_in, of_draft}
 use Rattle.layouts.specs.Layout.{Layout}
 use Rattle.layouts.specs.Lawful.{Lawful}

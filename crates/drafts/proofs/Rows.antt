@@ -1,7 +1,7 @@
 -- The row of an entry: what printing refuses, and what the printed row is judged as.
-use Rattle.std.proofs.Common.{◌≡◌, ℕ, ◌+◌, ◌^◌, ◌<◌, ◌≤◌, List, [], ◌∷◌, ◌++◌, length, Some, None, Ok, Err, Option, Result, sym, refl, ap, ◌∙◌, subst, arith}
-use Rattle.refusals.specs.Faults.{Fault, and_then, first_some, fault_in, ok_or}
-use Rattle.fields.specs.Field.{Field, Cell, Value, Working, write_field}
+use Rattle.std.proofs.Common.{◌≡◌, ℕ, ◌^◌, ◌<◌, List, [], ◌∷◌, ◌++◌, Some, None, Ok, Err, Option, Result, sym, refl, ap, ◌∙◌, subst}
+use Rattle.refusals.specs.Faults.{and_then, first_some, fault_in}
+use Rattle.fields.specs.Field.{Field, Cell, Working, write_field}
 use Rattle.fields.specs.InRow.{at_field}
 use Rattle.layouts.specs.Layout.{Layout}
 use Rattle.layouts.specs.Lawful.{Lawful, WorkedWide}

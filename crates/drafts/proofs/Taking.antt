@@ -1,5 +1,5 @@
 -- A call's checks one after the other, and what they leave.
-use Rattle.std.proofs.Common.{◌≡◌, ℕ, ◌+◌, ◌<◌, ◌≤◌, ltb, List, [], ◌∷◌, ◌++◌, length, Some, None, Option, sym, refl, ap, ◌∙◌, subst, arith}
+use Rattle.std.proofs.Common.{◌≡◌, ℕ, ◌+◌, ◌<◌, ◌≤◌, ltb, List, [], ◌∷◌, ◌++◌, length, Some, None, Option, sym, refl, ◌∙◌, subst}
 use Rattle.std.proofs.lemmas.Bool.{leb-true, lt-ltb, le-ltb}
 use Rattle.refusals.specs.declared.table.Refusal.{Refusal}
 use Rattle.refusals.specs.Refusals.{refusal}
@@ -7,8 +7,8 @@ use Rattle.refusals.specs.Faults.{Fault, fault, in_row, unless, first_some}
 use Rattle.layouts.specs.Layout.{Layout}
 use Rattle.records.specs.Row.{mark10, fields11, conditions15}
 use Rattle.records.specs.Entries.{Handed, meant, handed31, value_fault}
-use Rattle.records.proofs.Options.{AllNone, none_all, all_none, some_none, no_fault, unless_true, true_unless}
-use Rattle.legality.specs.Checks.{Call, row27, order20, group21, owner22, sum26, asks, checks_with}
+use Rattle.records.proofs.Options.{none_all, all_none, some_none, no_fault, unless_true, true_unless}
+use Rattle.legality.specs.Checks.{Call, row27, order20, group21, owner22, sum26, asks}
 use Rattle.lives.specs.Draft.{Moment, allows, judged, next}
 use Rattle.drafts.specs.Standing.{admission, contents, Ready}
 

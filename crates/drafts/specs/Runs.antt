@@ -1,5 +1,5 @@
 -- A run of calls on a draft of the program, and the law about its lives.
-use Rattle.std.specs.Prelude.{◌≡◌, ℕ, suc, ◌-◌, List, [], ◌∷◌, Ok, Err, Result}
+use Rattle.std.specs.Prelude.{◌≡◌, ℕ, suc, List, [], ◌∷◌, Ok, Err, Result}
 use Rattle.refusals.specs.Refusals.{refusal_in, of_draft}
 use Rattle.layouts.specs.Layout.{Layout}
 use Rattle.records.specs.Entries.{handed_of}

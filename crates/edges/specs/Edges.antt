@@ -1,17 +1,16 @@
 -- The edges of a row, as one table over the definitions that the contracts cite.
-use Rattle.std.specs.Prelude.{◌≡◌, ℕ, ◌+◌, ◌-◌, ◌^◌, Bool, true, false, List, [], ◌∷◌, ◌++◌, replicate, Some, None, Ok, Err, codes, Option, Result}
+use Rattle.std.specs.Prelude.{◌≡◌, ℕ, ◌-◌, ◌^◌, true, List, [], ◌∷◌, replicate, Some, None, Ok, Err, codes, Option, Result}
 use Rattle.std.specs.List.{AllByRecursion}
 use Rattle.refusals.specs.declared.table.Refusal.{Refusal}
 use Rattle.refusals.specs.Refusals.{refusal}
 use Rattle.refusals.specs.Faults.{Fault, fault}
-use Rattle.fields.specs.Field.{Field, Sort, constant, text, number, date, amount, Value, num, txt, Cell, count, read_field, write_field}
+use Rattle.fields.specs.Field.{Field, Sort, constant, text, number, date, amount, num, txt, Cell, count, read_field, write_field}
 use Rattle.fields.specs.InRow.{at_field}
-use Rattle.layouts.specs.Layout.{Layout}
 use Rattle.outgoing_receipts.specs.BookP.{layout_p}
 use Rattle.returned_receipts.specs.BookQ.{layout_q}
 use Rattle.records.specs.Row.{Entry}
 use Rattle.legality.specs.Before.{reckon}
-use Rattle.legality.specs.Checks.{Call, starts, adds, closes, entry_fault}
+use Rattle.legality.specs.Checks.{starts, adds, closes, entry_fault}
 
 abbrev field : ℕ → ℕ → Sort → Field
 field s w t = record { start = s; width = w; sort = t; required = true }

@@ -1,5 +1,5 @@
 -- The edges of a row, as one table over the definitions that the contracts cite.
-use Rattle.std.specs.Prelude.{◌≡◌, ℕ, ◌-◌, ◌^◌, true, List, [], ◌∷◌, ◌++◌, length, take, drop, replicate, Some, None, Ok, Err, codes, Option, Result}
+use Rattle.std.specs.Prelude.{◌≡◌, ℕ, ◌-◌, ◌^◌, true, List, [], ◌∷◌, length, take, drop, replicate, Some, None, Ok, Err, codes, Option, Result}
 use Rattle.std.specs.List.{AllByRecursion}
 use Rattle.refusals.specs.declared.table.Refusal.{Refusal}
 use Rattle.refusals.specs.Refusals.{refusal}
@@ -11,8 +11,8 @@ use Rattle.outgoing_receipts.specs.BookP.{layout_p}
 use Rattle.returned_receipts.specs.BookQ.{layout_q}
 use Rattle.records.specs.Row.{Entry}
 use Rattle.legality.specs.Before.{row_of, rows_of}
-use Rattle.legality.specs.Checks.{Call, starts, adds, closes, entry_fault}
-use Rattle.legality.specs.File.{Accepted, checked}
+use Rattle.legality.specs.Checks.{Call, starts, adds, entry_fault}
+use Rattle.legality.specs.File.{checked}
 
 -- what is looked at, and what it gives
 pub data Edge : Type 0 where

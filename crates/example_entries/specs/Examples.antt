@@ -1,5 +1,5 @@
 -- What the examples mean: kinds and values.
-use Rattle.std.specs.Prelude.{List, [], ◌∷◌, ℕ, codes, replicate}
+use Rattle.std.specs.Prelude.{[], ◌∷◌, codes, replicate}
 use Rattle.fields.specs.Field.{num, txt}
 use Rattle.records.specs.Row.{Entry}
 

@@ -1,7 +1,6 @@
 -- Checks one after the other, and rows one after the other.
-use Rattle.std.proofs.Common.{◌≡◌, ℕ, ◌+◌, ◌<◌, ◌≤◌, Bool, true, List, [], ◌∷◌, ◌++◌, map, length, get_or, take, drop, Some, None, Ok, Err, Option, Result, sym, refl, ap, ◌∙◌, subst}
-use Rattle.std.specs.List.{AllByRecursion}
-use Rattle.std.proofs.lemmas.List.{take_more, drop_more, drop_all, take_all}
+use Rattle.std.proofs.Common.{◌≡◌, ℕ, ◌+◌, ◌<◌, ◌≤◌, Bool, true, List, [], ◌∷◌, ◌++◌, map, length, get_or, take, drop, Some, None, Err, Option, sym, refl, ap, ◌∙◌}
+use Rattle.std.proofs.lemmas.List.{take_more, drop_more, drop_all}
 use Rattle.refusals.specs.declared.table.Refusal.{Refusal}
 use Rattle.refusals.specs.Faults.{Fault, in_row, first_some, and_then, answer}
 use Rattle.fields.specs.Field.{Field, Working}
@@ -13,11 +12,10 @@ use Rattle.records.specs.Held.{digits_held}
 use Rattle.records.specs.Row.{Entry, fields_of, origins_of, mark_of, entry_of, digits_of}
 use Rattle.records.specs.Worked.{worked_of}
 use Rattle.records.proofs.Options.{some_none}
-use Rattle.standings.specs.declared.progress.Progress.{Progress}
 use Rattle.legality.specs.Before.{reckon}
 use Rattle.legality.specs.Checks.{first_wrong, wrong, row_fault}
-use Rattle.legality.specs.File.{Accepted, checked_after, checked}
-use Rattle.standings.specs.Standing.{Good, Stands}
+use Rattle.legality.specs.File.{checked_after}
+use Rattle.standings.specs.Standing.{Good}
 use Rattle.standings.proofs.Holding.{digits_held_lem}
 use Rattle.standings.proofs.Wrong.{same_wrong}
 

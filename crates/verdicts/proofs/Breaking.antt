@@ -1,8 +1,8 @@
 -- Where bytes first break the hexadecimal form: the place that is computed is the first bad byte, or the length.
-use Rattle.std.proofs.Common.{◌≡◌, ℕ, zero, suc, ◌+◌, ◌%◌, ◌<◌, ◌≤◌, Bool, true, false, cond, not, eqb, ltb, ◌⊎◌, List, [], ◌∷◌, length, get_or, Some, None, Option, sym, refl, ap, ◌∙◌, subst, inl, inr, ⊎_elim, add-zero, add-one, arith}
+use Rattle.std.proofs.Common.{◌≡◌, ℕ, zero, suc, ◌+◌, ◌%◌, ◌<◌, ◌≤◌, Bool, true, false, eqb, ltb, List, [], ◌∷◌, length, get_or, Some, None, Option, sym, refl, ap, ◌∙◌, subst, inl, inr, ⊎_elim, add-zero, add-one, arith}
 use Rattle.std.proofs.lemmas.Bool.{cases_Bool, cond_both, lt-ltb, le-ltb, ltb-true, ltb-false, eq-eqb, eqb-true, eqb-false, ne_eqb, not-false, not-true, not_from_true, not_from_false}
 use Rattle.forms.specs.Forms.{hex_byte}
-use Rattle.rows.specs.Lines.{GoodTo, Formed, FirstBad}
+use Rattle.rows.specs.Lines.{Formed, FirstBad}
 use Rattle.fields.specs.Places.{first_bad, some_bad}
 use Rattle.fields.proofs.Finding.{NoneBefore, none_more, none_at, none_of}
 use Rattle.verdicts.specs.Input.{bad_byte, Named, broken_at, form1}

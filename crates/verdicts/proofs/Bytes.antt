@@ -1,5 +1,5 @@
 -- A row that a book reads holds bytes: what is read of a field are printable characters.
-use Rattle.std.proofs.Common.{◌≡◌, ℕ, zero, suc, ◌+◌, ◌-◌, ◌<◌, ◌≤◌, Bool, true, false, not, ◌&&◌, ◌||◌, eqb, leb, List, [], ◌∷◌, ◌++◌, length, get_or, take, drop, replicate, None, Ok, Result, sym, refl, ap, ◌∙◌, subst, ⊎_elim, arith}
+use Rattle.std.proofs.Common.{◌≡◌, ℕ, zero, suc, ◌-◌, ◌<◌, Bool, false, not, ◌&&◌, leb, List, [], ◌∷◌, length, get_or, take, drop, replicate, None, Ok, sym, refl, ◌∙◌, subst, ⊎_elim, arith}
 use Rattle.std.specs.List.{AllByRecursion}
 use Rattle.std.proofs.lemmas.List.{take-append-drop, length-drop, nil_from_length, get_or_past}
 use Rattle.std.proofs.ByRecursion.{All-get_or, All-from_get_or, All-append, All-weaker}
@@ -7,15 +7,15 @@ use Rattle.std.proofs.lemmas.Bool.{cases_lt, not-false, or_parts, and_parts, leb
 use Rattle.refusals.specs.Faults.{first_some}
 use Rattle.fields.specs.declared.flaws.Flaw.{Flaw}
 use Rattle.fields.specs.declared.flaws.Flaw.TheVariants.{Differs, Byte, Unfit}
-use Rattle.fields.specs.Places.{first_bad, checked}
+use Rattle.fields.specs.Places.{checked}
 use Rattle.fields.specs.Digits.{no_digit, check_digits, read_number}
-use Rattle.fields.specs.Text.{bad_text, check_text, trimmed, text_len, padded, read_text}
-use Rattle.fields.specs.Field.{Field, Sort, Family, fixed, digits, letters, long_digits, figured, family, Cell, differs, as_num, raw_read, gate, fits, read_field, constant, blank, text, word, number, code, date, amount, long, worked}
+use Rattle.fields.specs.Text.{bad_text, trimmed, read_text}
+use Rattle.fields.specs.Field.{Field, Sort, Family, fixed, digits, letters, long_digits, figured, family, Cell, differs, as_num, raw_read, fits, read_field, constant, blank, text, word, number, code, date, amount, long, worked}
 use Rattle.fields.proofs.Results.{then_ok, passed}
 use Rattle.fields.proofs.Finding.{none_in, ok_checked}
 use Rattle.fields.proofs.Trim.{padded-trimmed}
 use Rattle.fields.proofs.NumberLaw.{is_digit}
-use Rattle.layouts.specs.Layout.{Layout, kind_of}
+use Rattle.layouts.specs.Layout.{Layout}
 use Rattle.layouts.specs.Lawful.{Lawful, Between, Contents}
 use Rattle.fields.specs.InRow.{at_field}
 use Rattle.records.specs.Cells.{read_cells}

@@ -3,14 +3,14 @@ use Rattle.std.proofs.Common.{◌≡◌, ℕ, suc, ◌+◌, ◌-◌, ◌*◌, �
 use Rattle.std.specs.List.{flat_map, AllByRecursion}
 use Rattle.std.proofs.ByRecursion.{All-get_or, All-from_get_or}
 use Rattle.std.proofs.lemmas.Bool.{cases_lt, cond_both, ltb-true, lt-ltb}
-use Rattle.std.proofs.lemmas.List.{length-drop, get_or_past}
+use Rattle.std.proofs.lemmas.List.{get_or_past}
 use Rattle.std.proofs.lemmas.Nat.{div-add-mod', mod_below, mul-le}
 use Rattle.refusals.specs.declared.table.Refusal.{Refusal}
 use Rattle.refusals.specs.Faults.{answer, and_then}
 use Rattle.forms.specs.Forms.{hex_byte, hex_line, unhexed, hex_whole, digit_value, pair_at}
 use Rattle.forms.specs.FormLaws.{hex_fills, hex_back, hex_sound, hex_forth, get_or-unhexed, length-unhexed}
 use Rattle.rows.specs.Laws.{FormLaw}
-use Rattle.rows.specs.Lines.{line_at, opened, Whole, OfBytes, Formed, FirstBad}
+use Rattle.rows.specs.Lines.{line_at, opened, Whole, OfBytes}
 use Rattle.rows.specs.Whole.{length-rows_of, get_or-rows_of}
 use Rattle.rows.proofs.Joins.{form_law, length-lines}
 use Rattle.numbers.specs.Digits.{printed}
@@ -19,14 +19,13 @@ use Rattle.fields.proofs.NumberLaw.{number_law, length-printed}
 use Rattle.layouts.specs.Layout.{Layout}
 use Rattle.layouts.specs.Lawful.{Lawful}
 use Rattle.records.specs.Row.{Entry}
-use Rattle.legality.specs.Before.{sum_of, row_of, rows_after, rows_of}
-use Rattle.legality.specs.File as f
+use Rattle.legality.specs.Before.{sum_of, rows_after, rows_of}
 use Rattle.legality.specs.File.{Legal, Accepted, accepted, checked}
 use Rattle.legality.proofs.Law.{file_law, legal_shows, legal_sum, Sound}
 use Rattle.books.specs.declared.letters.Letter.{Letter}
-use Rattle.books.specs.Letters.{byte_of, layout_of}
+use Rattle.books.specs.Letters.{layout_of}
 use Rattle.books.proofs.Laws.{lawful}
-use Rattle.verdicts.specs.Input.{Named, named, broken_at, letter_on, form1, in_names, checked_lines, checked_book, verdict_on}
+use Rattle.verdicts.specs.Input.{Named, named, letter_on, form1, in_names, checked_lines, verdict_on}
 use Rattle.verdicts.specs.Printed.{ok_line, no_line, line_of}
 use Rattle.verdicts.specs.Conferred.{headed, LegalInput, FirstFault, too_long, no_book, bad_form, bad_file, Conferred}
 use Rattle.verdicts.proofs.Breaking.{Found, found, form_kept, form_broken}

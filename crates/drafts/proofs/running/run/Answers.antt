@@ -1,4 +1,4 @@
-use Rattle.std.proofs.Common.{◌≡◌, ℕ, suc, ◌+◌, map, Ok, Err, subst, add-zero, zero-add, arith}
+use Rattle.std.proofs.Common.{◌≡◌, suc, ◌+◌, map, Ok, Err, subst, add-zero, zero-add, arith}
 use Rattle.refusals.specs.Refusals.{refusal_in, of_draft}
 use Rattle.drafts.specs.Runs.{asked_in, Ran}
 use Rattle.drafts.specs.Standing.{Shows, seen_in}

@@ -1,9 +1,9 @@
-use Rattle.std.proofs.Common.{◌≡◌, ◌+◌, ◌/◌, Ok, Err, sym, ap, ◌∙◌}
+use Rattle.std.proofs.Common.{◌+◌, ◌/◌, Err, ap, ◌∙◌}
 use Rattle.std.proofs.lemmas.Result.{err_from_is_err_and}
 use Rattle.forms.specs.Forms.{unhexed}
 use Rattle.rows.specs.Lines.{opened}
 use Rattle.legality.specs.File.{checked}
-use Rattle.verdicts.specs.Faults.{told, row_of}
+use Rattle.verdicts.specs.Faults.{told}
 use Rattle.verdicts.specs.Input.{named, in_names}
 use Rattle.verdicts.proofs.Breaking.{form_kept, form_broken}
 use Rattle.verdicts.proofs.verdicts.check_lines.Goals as goal

@@ -1,9 +1,9 @@
-use Rattle.std.proofs.Common.{◌≡◌, ◌+◌, List, [], ◌∷◌, length, Some, None, sym, refl, ap, ◌∙◌, subst, arith}
+use Rattle.std.proofs.Common.{◌+◌, [], ◌∷◌, length, Some, None, sym, ap, ◌∙◌}
 use Rattle.std.proofs.lemmas.Result.{err_from_is_err_and}
 use Rattle.refusals.specs.Faults.{in_row}
 use Rattle.records.specs.Row.{fields11, conditions15}
 use Rattle.records.specs.Entries.{handed_of, meant}
-use Rattle.refusals.specs.Refusals.{of_row, of_entry, of_file, of_draft}
+use Rattle.refusals.specs.Refusals.{of_row, of_entry, of_file}
 use Rattle.records.specs.Worked.{worked_of}
 use Rattle.records.proofs.Options.{all_none, some_none}
 use Rattle.legality.specs.Checks.{owner22, sum26}

@@ -1,11 +1,9 @@
-use Rattle.std.proofs.Common.{◌≡◌, ◌<◌, ◌≤◌, List, [], ◌∷◌, ◌++◌, length, Some, None, sym, refl, ap, ◌∙◌, subst, arith}
+use Rattle.std.proofs.Common.{◌≡◌, ◌<◌, ◌≤◌, [], ◌∷◌, ◌++◌, length, Some, sym, refl, ap, ◌∙◌, subst, arith}
 use Rattle.std.proofs.lemmas.Result.{err_from_is_err_and}
 use Rattle.refusals.specs.Refusals.{refusal, of_carrier, of_draft}
-use Rattle.records.specs.Row.{entry_of, mark_of}
-use Rattle.records.specs.Entries.{handed_of, meant}
+use Rattle.records.specs.Entries.{handed_of}
 use Rattle.legality.specs.Before.{sum_of}
 use Rattle.standings.specs.Standing.{Stands}
-use Rattle.lives.specs.Draft.{state_after}
 use Rattle.drafts.specs.Standing.{Shows, Wrote}
 use Rattle.lives.specs.States.{call_of}
 use Rattle.drafts.proofs.Laying.{nothing}
