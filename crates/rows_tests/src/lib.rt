@@ -31,7 +31,7 @@ mod tests {
             }
             Err(_) => return Err(Fail::new("the line is refused")),
         }
-        assert!(rt; row[0] == 0x4_f && row[1] == 0x44 && row[749] == 0x44);
+        assert!(rt; row[0] == 0x4F && row[1] == 0x44 && row[749] == 0x44);
         Ok(())
     }
 
@@ -79,8 +79,8 @@ mod tests {
     fn a_hexadecimal_line_is_written_high_digit_first(rt: HostRuntime) {
         let mut memory = [0u8; 1501];
         let mut row = [b'A'; 750];
-        row[0] = 0x2_f;
-        row[749] = 0x_c0;
+        row[0] = 0x2F;
+        row[749] = 0xC0;
         let mut out: Written<Hexadecimal> = Written::over(&mut memory);
         assert!(rt; out.push(&row).is_ok());
         assert!(rt;

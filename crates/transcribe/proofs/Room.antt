@@ -1,5 +1,5 @@
 -- Memory that was made for just as many lines as there are rows.
-use Rattle.std.proofs.Common.{◌≡◌, ℕ, ◌*◌, ◌/◌, ◌<◌, List, ◌++◌, length, drop, ap, ◌∙◌, append-nil, mul-div_cancel, arith}
+use Rattle.std.proofs.Common.{◌≡◌, ℕ, ◌*◌, ◌/◌, ◌<◌, List, ◌++◌, length, ap, ◌∙◌, append-nil, mul-div_cancel, arith}
 use Rattle.std.specs.List.{flat_map}
 use Rattle.std.proofs.lemmas.List.{drop_all}
 use Rattle.rows.specs.Rows.{laid}

@@ -2,7 +2,7 @@ use Rattle.std.proofs.Common.{List, vec_items, subst}
 use Rattle.layouts.specs.Meaning.{kind_with}
 use Rattle.layouts.specs.declared.kinds.Kind.{Kind}
 use Rattle.columns.specs.Tables.{KindsText, Wrote}
-use Rattle.columns.proofs.Tabled.{none_tabled, kind_tabled, all_tabled}
+use Rattle.columns.proofs.Tabled.{kind_tabled, all_tabled}
 use Rattle.columns.proofs.tables.put_book.Goals as goal
 
 pub loop-kind-preserved : goal.loop-kind-preserved

@@ -1,4 +1,4 @@
-use Rattle.std.proofs.Common.{◌≡◌, ℕ, ◌<◌, List, [], length, arith, Bor}
+use Rattle.std.proofs.Common.{ℕ, ◌<◌, List, [], length, arith, Bor}
 use Rattle.layouts.proofs.Within.{unread, as_many, read_inside}
 use Rattle.columns.proofs.Tabled.{field_put, fields_put, kind_put}
 use Rattle.columns.proofs.tables.put_kind.Goals as goal

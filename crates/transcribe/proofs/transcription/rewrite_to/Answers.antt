@@ -1,4 +1,4 @@
-use Rattle.std.proofs.Common.{◌≡◌, sym, subst}
+use Rattle.std.proofs.Common.{sym, subst}
 use Rattle.transcribe.specs.Transcribed.{Rewritten, encoded_in}
 use Rattle.transcribe.proofs.transcription.rewrite_to.Goals as goal
 

@@ -1,4 +1,4 @@
-use Rattle.std.proofs.Common.{◌≡◌, sym, subst}
+use Rattle.std.proofs.Common.{sym, subst}
 use Rattle.transcribe.specs.Transcribed.{Transcribed, LacksRoom, good_in, size_in}
 use Rattle.transcribe.proofs.transcription.transcribe.Goals as goal
 
