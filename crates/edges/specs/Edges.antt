@@ -12,7 +12,7 @@ use Rattle.records.specs.Row.{Entry}
 use Rattle.legality.specs.Before.{reckon}
 use Rattle.legality.specs.Checks.{starts, adds, closes, entry_fault}
 
-abbrev field : ℕ → ℕ → Sort → Field
+abbrev pub field : ℕ → ℕ → Sort → Field
 field s w t = record { start = s; width = w; sort = t; required = true }
 
 -- a content, and the bytes that it is written as, or the refusal at its position
@@ -50,10 +50,10 @@ read =
     (reads (field 12 15 text) (codes "PIX            ") (Ok (Some (txt (codes "PIX")))) ∷ []))
 
 -- entries of book P and book Q
-abbrev header_p : Entry
+abbrev pub header_p : Entry
 header_p = record { mark = 48; values = txt (codes "12345678") ∷ (num 2 ∷ (num 12345678000195 ∷ (txt [] ∷ (txt [] ∷ (txt [] ∷ (txt [] ∷ (num 20240229 ∷ (txt [] ∷ (txt [] ∷ []))))))))) }
 
-abbrev charge_p : ℕ → List ℕ → ℕ → ℕ → List ℕ → Entry
+abbrev pub charge_p : ℕ → List ℕ → ℕ → ℕ → List ℕ → Entry
 charge_p type identifier value interest free = record {
   mark = 49;
   values =
@@ -61,7 +61,7 @@ charge_p type identifier value interest free = record {
       (num value ∷ (num interest ∷ (num 0 ∷ (num 0 ∷ (txt [] ∷ (num 0 ∷ (num 0 ∷ (txt [] ∷ (txt free ∷ (txt [] ∷ (txt [] ∷ []))))))))))))))))))))));
 }
 
-abbrev trailer_p : Entry
+abbrev pub trailer_p : Entry
 trailer_p = record { mark = 57; values = [] }
 
 abbrev pub letters : ℕ → List ℕ

@@ -1,10 +1,10 @@
 -- The edges of a row, as one table over the definitions that the contracts cite.
-use Rattle.std.specs.Prelude.{◌≡◌, ℕ, ◌-◌, ◌^◌, true, List, [], ◌∷◌, length, take, drop, replicate, Some, None, Ok, Err, codes, Option, Result}
+use Rattle.std.specs.Prelude.{◌≡◌, ℕ, ◌-◌, ◌^◌, List, [], ◌∷◌, length, take, drop, replicate, Some, None, Ok, Err, codes, Option, Result}
 use Rattle.std.specs.List.{AllByRecursion}
 use Rattle.refusals.specs.declared.table.Refusal.{Refusal}
 use Rattle.refusals.specs.Refusals.{refusal}
 use Rattle.refusals.specs.Faults.{Fault, fault}
-use Rattle.fields.specs.Field.{Field, Sort, constant, text, number, date, amount, num, txt, Cell, read_field, write_field}
+use Rattle.fields.specs.Field.{Field, constant, text, number, date, amount, num, txt, Cell, read_field, write_field}
 use Rattle.fields.specs.InRow.{at_field}
 use Rattle.layouts.specs.Layout.{Layout}
 use Rattle.outgoing_receipts.specs.BookP.{layout_p}
@@ -13,6 +13,7 @@ use Rattle.records.specs.Row.{Entry}
 use Rattle.legality.specs.Before.{row_of, rows_of}
 use Rattle.legality.specs.Checks.{Call, starts, adds, entry_fault}
 use Rattle.legality.specs.File.{checked}
+use Rattle.edges.specs.Edges.{field, header_p, charge_p, trailer_p, letters}
 
 -- what is looked at, and what it gives
 pub data Edge : Type 0 where
@@ -34,23 +35,9 @@ Holds (calls l before c e r) = entry_fault l before c e ≡ r
 Holds (shows l before e p bs) = take (length bs) (drop (p - 1) (row_of l before e)) ≡ bs
 Holds (checks l es n sum) = checked l (rows_of l es) ≡ Ok (record { rows = n; sum = sum })
 
--- a required field: start, width, sort
-abbrev field : ℕ → ℕ → Sort → Field
-field s w t = record { start = s; width = w; sort = t; required = true }
-
--- entries of book P
-abbrev header_p : Entry
-header_p = record { mark = 48; values = txt (codes "12345678") ∷ (num 2 ∷ (num 12345678000195 ∷ (txt [] ∷ (txt [] ∷ (txt [] ∷ (txt [] ∷ (num 20240229 ∷ (txt [] ∷ (txt [] ∷ []))))))))) }
-
-abbrev charge_p : ℕ → List ℕ → ℕ → ℕ → List ℕ → Entry
-charge_p type identifier value interest free = record { mark = 49; values = num 2 ∷ (num 12345678000195 ∷ (num 0 ∷ (txt (replicate 20 48) ∷ (txt [] ∷ (txt (codes "key@bread") ∷ (num type ∷ (num 1 ∷ (txt identifier ∷ (num 0 ∷ (num 0 ∷ (txt [] ∷ (num value ∷ (num interest ∷ (num 0 ∷ (num 0 ∷ (txt [] ∷ (num 0 ∷ (num 0 ∷ (txt [] ∷ (txt free ∷ (txt [] ∷ (txt [] ∷ [])))))))))))))))))))))) }
-
-abbrev trailer_p : Entry
-trailer_p = record { mark = 57; values = [] }
-
 -- of type 1, with a key of 9 bytes and a free text of n
 abbrev static : ℕ → Entry
-static n = charge_p 1 [] 0 0 (replicate n 97)
+static n = charge_p 1 [] 0 0 (letters n)
 
 -- of type 2, over 1,250.00, with that interest
 abbrev dynamic : ℕ → Entry

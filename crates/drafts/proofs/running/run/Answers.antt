@@ -1,8 +1,6 @@
 use Rattle.std.proofs.Common.{◌≡◌, suc, ◌+◌, map, Ok, Err, subst, add-zero, zero-add, arith}
-use Rattle.refusals.specs.Refusals.{refusal_in, of_draft}
 use Rattle.drafts.specs.Runs.{asked_in, Ran}
-use Rattle.drafts.specs.Standing.{Shows, seen_in}
-use Rattle.lives.proofs.AnyDrafts.{exchange_of}
+use Rattle.drafts.proofs.Exchanging.{exchanged}
 use Rattle.drafts.proofs.Laying.{nothing, together}
 use Rattle.drafts.proofs.Reading.{read_back}
 use Rattle.drafts.proofs.RunSteps.{ran_at, ran_all}
@@ -49,5 +47,5 @@ returns g c =
       ran = rw add-zero at (c.loop-request.invariant.2 0 d (ran_all l rows places d c.args.requests.now c.loop-request.request-index c.loop-request-test.false));
       wrote = c.loop-request.invariant.1;
       read = read_back {B = g.row.B.Denot} l g.B.Meant.lawful rows places rows g.C.Source.whole;
-      law = exchange_of l g.B.Meant.lawful (refusal_in of_draft) (Shows l rows places) (seen_in rows places) (λ d v s. (s.2, s.3, s.0)) (refusal_in of_draft) (Shows l rows places) (seen_in rows places) (λ d v s. (s.2, s.3, s.0));
+      law = exchanged g.row.B.Denot l g.B.Meant.lawful rows places rows places;
     }
