@@ -1,7 +1,9 @@
 // The letters by which the books are known.
-ghost use Rattle.std.specs.Prelude.{◌≡◌, MatchOption, ◌≢◌};
-ghost use Rattle.books.specs.declared.letters.Letter.{Letter};
-ghost use Rattle.books.specs.Letters.{byte_of};
+ghost use Rattle.std.specs.Prelude.{◌≡◌};
+ghost use Rattle.books.specs.Letters.{byte_of, ReadsByte, ReadsWord};
+
+use std::fmt;
+use std::str::FromStr;
 
 #[derive(Clone, Copy, PartialEq, Eq, Debug)]
 pub enum Letter {
@@ -13,26 +15,54 @@ pub enum Letter {
     S,
 }
 
-impl Letter {
+// A byte or a word by which no book is known.
+#[derive(Clone, Copy, PartialEq, Eq, Debug)]
+pub struct NoLetter;
+
+impl TryFrom<u8> for Letter {
+    type Error = NoLetter;
+
+    ghost try_from_gives = { ReadsByte };
+
     // The letter that the byte is, if it is one.
-    pub fn read(byte: u8) -> Option<Letter>
-        ensures { MatchOption result ((l : Letter) → byte_of l ≢ byte) (λ l. byte_of l ≡ byte) }
-    {
-        match byte as char {
-            'P' => Some(Letter::P),
-            'Q' => Some(Letter::Q),
-            'S' => Some(Letter::S),
-            _ => None,
+    fn try_from(byte: u8) -> Result<Letter, NoLetter> {
+        match byte {
+            b'P' => Ok(Letter::P),
+            b'Q' => Ok(Letter::Q),
+            b'S' => Ok(Letter::S),
+            _ => Err(NoLetter),
         }
     }
+}
 
-    pub fn byte(self) -> u8
-        ensures { result ≡ byte_of self }
-    {
-        match self {
+impl From<Letter> for u8 {
+    ghost from_gives = { λ letter byte. byte ≡ byte_of letter };
+
+    fn from(letter: Letter) -> u8 {
+        match letter {
             Letter::P => b'P',
             Letter::Q => b'Q',
             Letter::S => b'S',
         }
+    }
+}
+
+impl FromStr for Letter {
+    type Err = NoLetter;
+
+    ghost from_str_gives = { ReadsWord };
+
+    // The letter that a word is, if it is one.
+    fn from_str(word: &str) -> Result<Letter, NoLetter> {
+        let [byte] = word.as_bytes() else {
+            return Err(NoLetter);
+        };
+        Letter::try_from(*byte)
+    }
+}
+
+impl fmt::Display for Letter {
+    fn fmt<W: fmt::Write>(&self, f: &mut fmt::Formatter<W>) -> fmt::Result {
+        f.write_char(u8::from(*self) as char)
     }
 }

@@ -1,3 +1,1 @@
-mod Single
-mod Spreads
 mod Tabled

@@ -1,34 +1,31 @@
-// A field of a book as one line of text.
-ghost use Rattle.std.specs.Prelude.{◌≡◌, ◌+◌, ◌%◌, ◌≤◌, [], ◌∷◌, ◌++◌, map, OnOk};
+// A field of a book as one line of text. Letters and marks are bytes here, since a line is bytes, whatever they are.
+ghost use Rattle.std.specs.Prelude.{◌≡◌, ◌++◌, map, OnOk};
 ghost use Rattle.numbers.specs.Digits.{printed};
 ghost use Rattle.fields.specs.Meaning.{sort_of, field_of};
 ghost use Rattle.columns.specs.Lines.{sort_word, requirement, spread, spaced, quoted, admitted, positions, place, sort_text, ended, remark, field_line, heading};
 
 use fields::field::{Field, Sort, Working};
-use std::alloc::{AllocError, Global};
-
-fn last_digit(n: usize) -> u8
-    ensures { result ≡ 48 + n % 10 }
-{
-    b'0' + (n % 10) as u8
-}
+use layouts::placed::Placed;
+use numbers::put_digits;
+use std::alloc::AllocError;
 
 fn put_position(out: &mut Vec<u8>, n: usize) -> Result<(), AllocError>
     ensures { OnOk result (out.new.items ≡ out.old.items ++ printed 3 n) }
 {
-    let digits = [last_digit(n / 100), last_digit(n / 10), last_digit(n)];
+    let mut digits = [b'0'; 3];
+    put_digits(&mut digits, n as u64);
     out.extend_from_slice(&digits)
 }
 
-fn put_positions(out: &mut Vec<u8>, field: Field) -> Result<(), AllocError>
-    requires { (1 ≤ field.start) × (field.start + field.width ≤ 751) }
-    ensures { OnOk result (out.new.items ≡ out.old.items ++ positions (field_of field)) }
+fn put_positions(out: &mut Vec<u8>, placed: Placed) -> Result<(), AllocError>
+    ensures { OnOk result (out.new.items ≡ out.old.items ++ positions (field_of placed.field)) }
 {
-    put_position(out, field.start)?;
+    put_position(out, placed.field.start)?;
     out.push(b'-')?;
-    put_position(out, field.start + field.width - 1)
+    put_position(out, placed.last())
 }
 
+// A word of this listing, and no Display of the sort: that would put it into the engine.
 pub fn sort_word(sort: Sort) -> &'static str
     ensures { result.now ≡ sort_word (sort_of sort) }
 {
@@ -77,50 +74,49 @@ fn put_words(out: &mut Vec<u8>, words: &[&[u8]]) -> Result<(), AllocError>
     Ok(())
 }
 
-fn put_code(heap: Global, out: &mut Vec<u8>, code: u64) -> Result<(), AllocError>
+fn put_code(out: &mut Vec<u8>, code: u64) -> Result<(), AllocError>
     ensures { OnOk result (out.new.items ≡ out.old.items ++ spaced code) }
 {
-    let text = format!(in heap; " {code}")?;
+    let text = format!(in *out.allocator(); " {code}")?;
     out.extend_from_slice(text.as_bytes())
 }
 
-fn put_codes(heap: Global, out: &mut Vec<u8>, codes: &[u64]) -> Result<(), AllocError>
+fn put_codes(out: &mut Vec<u8>, codes: &[u64]) -> Result<(), AllocError>
     ensures { OnOk result (out.new.items ≡ out.old.items ++ spread spaced codes.now) }
 {
     for code in codes {
-        put_code(heap, out, *code)?;
+        put_code(out, *code)?;
     }
     Ok(())
 }
 
-fn put_admitted(heap: Global, out: &mut Vec<u8>, sort: Sort) -> Result<(), AllocError>
+fn put_admitted(out: &mut Vec<u8>, sort: Sort) -> Result<(), AllocError>
     ensures { OnOk result (out.new.items ≡ out.old.items ++ admitted (sort_of sort)) }
 {
     match sort {
         Sort::Constant(text) => put_quoted(out, text),
         Sort::Word(words) => put_words(out, words),
-        Sort::Code(codes) => put_codes(heap, out, codes),
+        Sort::Code(codes) => put_codes(out, codes),
         _ => Ok(()),
     }
 }
 
 // The sort, whether it is required, and what it admits.
-fn put_sort(heap: Global, out: &mut Vec<u8>, field: Field) -> Result<(), AllocError>
+fn put_sort(out: &mut Vec<u8>, field: Field) -> Result<(), AllocError>
     ensures { OnOk result (out.new.items ≡ out.old.items ++ sort_text (field_of field)) }
 {
     out.push(b' ')?;
     out.extend_from_slice(sort_word(field.sort).as_bytes())?;
     out.extend_from_slice(requirement(field).as_bytes())?;
-    put_admitted(heap, out, field.sort)
+    put_admitted(out, field.sort)
 }
 
 // Book, kind and positions.
-fn put_place(out: &mut Vec<u8>, letter: u8, mark: u8, field: Field) -> Result<(), AllocError>
-    requires { (1 ≤ field.start) × (field.start + field.width ≤ 751) }
-    ensures { OnOk result (out.new.items ≡ out.old.items ++ place letter mark (field_of field)) }
+fn put_place(out: &mut Vec<u8>, letter: u8, mark: u8, placed: Placed) -> Result<(), AllocError>
+    ensures { OnOk result (out.new.items ≡ out.old.items ++ place letter mark (field_of placed.field)) }
 {
     out.extend_from_slice(&[letter, b' ', mark, b' '])?;
-    put_positions(out, field)
+    put_positions(out, placed)
 }
 
 // A text, and the end of the line.
@@ -140,18 +136,16 @@ fn put_name(out: &mut Vec<u8>, name: &str) -> Result<(), AllocError>
 
 // The line of a field, with its name as a remark.
 pub fn put_field(
-    heap: Global,
     out: &mut Vec<u8>,
     letter: u8,
     mark: u8,
-    field: Field,
+    placed: Placed,
     name: &str,
 ) -> Result<(), AllocError>
-    requires { (1 ≤ field.start) × (field.start + field.width ≤ 751) }
-    ensures { OnOk result (out.new.items ≡ out.old.items ++ field_line letter mark (field_of field) name.now) }
+    ensures { OnOk result (out.new.items ≡ out.old.items ++ field_line letter mark (field_of placed.field) name.now) }
 {
-    put_place(out, letter, mark, field)?;
-    put_sort(heap, out, field)?;
+    put_place(out, letter, mark, placed)?;
+    put_sort(out, placed.field)?;
     put_name(out, name)
 }
 

@@ -3,10 +3,8 @@
 
 mod lines;
 mod tables;
-mod words;
 
 use crate::tables::put_table;
-use crate::words::letter_in;
 use anyhow::anyhow;
 use books::letters::Letter;
 use std::env;
@@ -19,10 +17,8 @@ const USAGE: &str = "usage: columns LETTER.. (P, Q or S)";
 fn letters(rt: &HostRuntime) -> anyhow::Result<Vec<Letter>> {
     let mut letters = Vec::new(rt.alloc());
     for word in env::args(rt)?.skip(1) {
-        match letter_in(word.as_bytes()) {
-            Some(letter) => letters.push(letter)?,
-            None => return Err(anyhow!(USAGE)),
-        }
+        let letter = word.parse().map_err(|_| anyhow!(USAGE))?;
+        letters.push(letter)?;
     }
     if letters.is_empty() {
         return Err(anyhow!(USAGE));
@@ -31,15 +27,15 @@ fn letters(rt: &HostRuntime) -> anyhow::Result<Vec<Letter>> {
 }
 
 fn run(rt: &HostRuntime) -> anyhow::Result<()> {
-    let heap = rt.alloc();
-    let mut out = Vec::new(heap);
+    let mut out = Vec::new(rt.alloc());
     for letter in &letters(rt)? {
-        put_table(heap, &mut out, *letter)?;
+        put_table(&mut out, *letter)?;
     }
     rt.stdout().write_all(&out)?;
     Ok(())
 }
 
+// A main that hands its error on would print it in another form, and one function for the four programs that end so would need a crate of its own.
 fn main(rt: HostRuntime) -> ExitCode {
     match run(&rt) {
         Ok(()) => ExitCode::SUCCESS,

@@ -9,50 +9,48 @@ use books::letters::Letter;
 use layouts::book::Book;
 use layouts::kinds::Kind;
 use layouts::named::Named;
+use layouts::placed::Placed;
 use outgoing_receipts::OutgoingReceipts;
 use recurring_charges::RecurringCharges;
 use returned_receipts::ReturnedReceipts;
-use std::alloc::{AllocError, Global};
+use std::alloc::AllocError;
 
 // A kind: a heading, and a line for each field in order of positions.
 fn put_kind<B: Book + Named>(
-    heap: Global,
     out: &mut Vec<u8>,
-    letter: u8,
+    letter: Letter,
     book: &B,
     kind: Kind,
 ) -> Result<(), AllocError>
-    ensures { OnOk result (Wrote out.old.items out.new.items (KindText letter kind.mark (kind_of B.Meant.meaning kind.mark).fields)) }
+    ensures { OnOk result (Wrote out.old.items out.new.items (KindText (byte_of letter) kind.mark (kind_of B.meaning kind.mark).fields)) }
 {
+    let letter = u8::from(letter);
     put_heading(out, letter, kind.mark, book.title(kind))?;
     let fields = book.fields(kind);
     let names = book.names(kind);
-    for i in 0..fields.len() {
-        put_field(heap, out, letter, kind.mark, fields[i], names[i])?;
+    for (field, name) in fields.iter().zip(names) {
+        let placed = Placed { field: *field };
+        put_field(out, letter, kind.mark, placed, name)?;
     }
     Ok(())
 }
 
-fn put_book<B: Book + Named>(
-    heap: Global,
-    out: &mut Vec<u8>,
-    letter: u8,
-    book: &B,
-) -> Result<(), AllocError>
-    ensures { OnOk result (Wrote out.old.items out.new.items (TableText letter B.Meant.meaning)) }
+fn put_book<B: Book + Named>(out: &mut Vec<u8>, letter: Letter, book: &B) -> Result<(), AllocError>
+    ensures { OnOk result (Wrote out.old.items out.new.items (TableText (byte_of letter) B.meaning)) }
 {
     for kind in book.kinds() {
-        put_kind(heap, out, letter, book, *kind)?;
+        put_kind(out, letter, book, *kind)?;
     }
     Ok(())
 }
 
-pub fn put_table(heap: Global, out: &mut Vec<u8>, letter: Letter) -> Result<(), AllocError>
+// A trait with one generic method would say the book of a letter once for all programs, and be longer than these arms.
+pub fn put_table(out: &mut Vec<u8>, letter: Letter) -> Result<(), AllocError>
     ensures { OnOk result (Wrote out.old.items out.new.items (TableText (byte_of letter) (layout_of letter))) }
 {
     match letter {
-        Letter::P => put_book(heap, out, letter.byte(), &OutgoingReceipts),
-        Letter::Q => put_book(heap, out, letter.byte(), &ReturnedReceipts),
-        Letter::S => put_book(heap, out, letter.byte(), &RecurringCharges),
+        Letter::P => put_book(out, letter, &OutgoingReceipts),
+        Letter::Q => put_book(out, letter, &ReturnedReceipts),
+        Letter::S => put_book(out, letter, &RecurringCharges),
     }
 }

@@ -26,6 +26,7 @@ fn run(rt: &HostRuntime) -> Result<(), ConferirFault> {
     Ok(())
 }
 
+// A main that hands its error on would print it in another form, and one function for the four programs that end so would need a crate of its own.
 fn main(rt: HostRuntime) -> ExitCode {
     match run(&rt) {
         Ok(()) => ExitCode::SUCCESS,

@@ -1,55 +1,23 @@
-// Where the cases of a list lie.
-ghost use Rattle.std.specs.Prelude.{◌≡◌, ◌+◌, ◌<◌, ◌≤◌, length, MatchOption};
-ghost use Rattle.conferir_cases.specs.Spans.{InCase, Begins};
+// The cases of a list: the length of an input in decimal digits, LF, the input, LF, one after the other.
+ghost use Rattle.std.specs.Prelude.{IfSome};
+ghost use Rattle.conferir_cases.specs.Cases.{Parts};
 
-// One input: from its first byte to the LF behind it.
-#[derive(Clone, Copy)]
-pub struct Span {
-    pub start: usize,
-    pub end: usize,
+// The length that the digits are, if it is one.
+fn length_of(digits: &[u8]) -> Option<usize> {
+    digits.iter().try_fold(0usize, |number, digit| match digit {
+        b'0'..=b'9' => number.checked_mul(10)?.checked_add((digit - b'0') as usize),
+        _ => None,
+    })
 }
 
-// A length, and where the bytes begin that it counts: after the LF.
-#[derive(Clone, Copy)]
-struct Head {
-    length: usize,
-    start: usize,
-}
-
-fn head_at(bytes: &[u8], at: usize) -> Option<Head>
-    ensures { Begins at (length bytes.now) result }
+// The input of the first case and what comes after it, if a case is there.
+pub(crate) fn next_case(bytes: &[u8]) -> Option<(&[u8], &[u8])>
+    ensures { IfSome result (λ p. Parts bytes.now p.0.now p.1.now) }
 {
-    let mut number: usize = 0;
-    for i in at..bytes.len() {
-        match bytes[i] {
-            b'\n' => {
-                return Some(Head {
-                    length: number,
-                    start: i + 1,
-                });
-            }
-            digit @ b'0'..=b'9' => {
-                number = number
-                    .checked_mul(10)?
-                    .checked_add((digit - b'0') as usize)?;
-            }
-            _ => return None,
-        }
-    }
-    None
-}
-
-// The case whose length stands at `at`, if it lies in the bytes.
-pub(crate) fn span_at(bytes: &[u8], at: usize) -> Option<Span>
-    ensures { InCase at bytes.now result }
-{
-    let head = head_at(bytes, at)?;
-    let end = head.start.checked_add(head.length)?;
-    if end < bytes.len() && bytes[end] == b'\n' {
-        return Some(Span {
-            start: head.start,
-            end,
-        });
-    }
-    None
+    let at = bytes.iter().position(|byte| *byte == b'\n')?;
+    let (digits, behind) = bytes.split_at(at);
+    let length = length_of(digits)?;
+    let (input, behind) = behind.strip_prefix(b"\n")?.split_at_checked(length)?;
+    let rest = behind.strip_prefix(b"\n")?;
+    Some((input, rest))
 }

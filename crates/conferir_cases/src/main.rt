@@ -5,21 +5,20 @@
 mod cases;
 
 use anyhow::anyhow;
-use cases::{Span, span_at};
+use cases::next_case;
 use std::io::{Read, Write};
 use verdicts::lines::confer;
 
 fn run(rt: &HostRuntime) -> anyhow::Result<()> {
     let mut bytes = Vec::new(rt.alloc());
     rt.stdin().read_to_end(&mut bytes)?;
-    let mut at = 0;
-    while at < bytes.len() {
-        let Some(Span { start, end }) = span_at(bytes.as_slice(), at) else {
+    let mut rest = bytes.as_slice();
+    while !rest.is_empty() {
+        let Some((input, behind)) = next_case(rest) else {
             return Err(anyhow!("this is no list of cases"));
         };
-        rt.stdout()
-            .write_all(confer(&bytes.as_slice()[start..end]).bytes())?;
-        at = end + 1;
+        rt.stdout().write_all(confer(input).bytes())?;
+        rest = behind;
     }
     Ok(())
 }

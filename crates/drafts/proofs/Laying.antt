@@ -11,7 +11,7 @@ put_append size line (x ∷ xs) ys memory held =
     let z : held + 1 + length xs ≡ held + suc (length xs) = omega arith in
     put_append size line xs ys (put size line memory held x) (held + 1) ∙ ap (λ n. put_all size line (put_all size line (put size line memory held x) (held + 1) xs) n ys) z
 
-module _ {B C : Type 0} (rows : C → List (List ℕ)) (memory lenders : C → List ℕ) (size : ℕ) (line : List ℕ → List ℕ) where
+module _ {B C : Type 0} {rows : C → List (List ℕ)} {memory lenders : C → List ℕ} {size : ℕ} {line : List ℕ → List ℕ} where
   pub nothing : (d : Draft B C) → Wrote rows memory lenders size line d d
   nothing d = record { added = []; behind = sym (append-nil (rows d.carrier)); lines = refl; loans = refl; book = refl }
 

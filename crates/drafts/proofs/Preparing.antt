@@ -1,5 +1,5 @@
 -- What each check of an admitted entry's row comes to, in the words of the entry.
-use Rattle.std.proofs.Common.{◌≡◌, ℕ, ◌+◌, ◌^◌, ◌<◌, ◌≤◌, List, [], ◌∷◌, ◌++◌, length, None, Ok, Option, sym, ap, ◌∙◌, subst, arith}
+use Rattle.std.proofs.Common.{◌≡◌, ℕ, ◌+◌, ◌^◌, ◌<◌, ◌≤◌, List, [], ◌∷◌, ◌++◌, length, Some, None, Ok, Option, sym, refl, ap, ◌∙◌, subst, arith}
 use native.Mathlib.Nat.{pow-le-pow_right}
 use Rattle.std.proofs.lemmas.Bool.{ltb-true}
 use Rattle.refusals.specs.declared.table.Refusal.{Refusal}
@@ -11,15 +11,17 @@ use Rattle.records.specs.declared.entries.Worked.{Worked}
 use Rattle.records.specs.Row.{origins_of, mark10, values31, fields11, conditions15, print_row, entry_of, mark_of, row_faults}
 use Rattle.records.specs.Entries.{Handed, meant, handed31, value_fault}
 use Rattle.records.specs.Worked.{worked_of, reckoned_by}
-use Rattle.records.proofs.Options.{in_none, no_fault, unless_true}
+use Rattle.records.proofs.Options.{some_none, in_none, no_fault, unless_true}
 use Rattle.records.proofs.Law.{Printed, printed}
 use Rattle.legality.specs.Before.{reckon, sum_of}
 use Rattle.legality.specs.Checks.{owner22, sum26}
-use Rattle.standings.specs.Standing.{Good}
+use Rattle.standings.specs.declared.next.NextRow.{NextRow}
+use Rattle.standings.specs.Standing.{Good, IsRead}
 use Rattle.legality.proofs.Reckoning.{reckon_fits}
 use Rattle.lives.specs.Draft.{Moment}
-use Rattle.drafts.specs.Standing.{Ready, Fit}
+use Rattle.drafts.specs.Standing.{contents, Ready, Fit}
 use Rattle.lives.proofs.Handing.{means}
+use Rattle.drafts.proofs.Stops.{here, skip}
 use Rattle.drafts.proofs.Rows.{last, prints, judged_as, same_worked}
 
 -- what stands in the worked fields at first fits every one of them
@@ -39,43 +41,47 @@ module _ (l : Layout) (law : Lawful l) (v : Moment) (h : Handed) (n m : ℕ) (re
   valued : values31 l (meant h) ≡ None
   valued = means l h ready.valued
 
-  -- printing refuses only the fields
-  pub at_fields : (o : Option Refusal) (r : Working → ℕ) → ((k : Working) (w : ℕ) → WorkedWide k w → r k < 10 ^ w) →
-      o ≡ first_some (in_row n (mark10 l h.mark) ∷ (value_fault (handed31 l h) ∷ (in_row n (fault_in (print_row l (meant h) (reckoned_by r (origins_of l h.mark)))) ∷ []))) → o ≡ in_row (length v.entries + 1) (fields11 l (meant h))
+  -- what printing answers
+  abbrev pub Prints : Option Refusal → (Working → ℕ) → Type 0
+  Prints o r = o ≡ first_some (in_row n (mark10 l h.mark) ∷ (value_fault (handed31 l h) ∷ (in_row n (fault_in (print_row l (meant h) (reckoned_by r (origins_of l h.mark)))) ∷ [])))
+
+  -- it refuses only the fields
+  at_fields : (o : Option Refusal) (r : Working → ℕ) → ((k : Working) (w : ℕ) → WorkedWide k w → r k < 10 ^ w) →
+      Prints o r → o ≡ in_row (length v.entries + 1) (fields11 l (meant h))
   at_fields o r small e =
       e ∙ last _ _ _ (in_none n _ ready.known) (ap value_fault ready.valued) ∙ ap (in_row n) (prints l law (meant h) ready.known valued r small) ∙ ap (λ k. in_row k (fields11 l (meant h))) ready.next
 
-  pub row_printed : (ws row : List ℕ) → print_row l (meant h) ws ≡ Ok row → Printed l (meant h) ws row
+  row_printed : (ws row : List ℕ) → print_row l (meant h) ws ≡ Ok row → Printed l (meant h) ws row
   row_printed ws row p = printed l law (meant h) ws row ready.known p
 
   module _ (ws row : List ℕ) (is : Printed l (meant h) ws row) where
-    pub at_conditions : (o : Option Refusal) → o ≡ in_row n (first_some (row_faults l row)) → o ≡ in_row (length v.entries + 1) (conditions15 l (meant h))
+    at_conditions : (o : Option Refusal) → o ≡ in_row n (first_some (row_faults l row)) → o ≡ in_row (length v.entries + 1) (conditions15 l (meant h))
     at_conditions o e = e ∙ ap (in_row n) (judged_as l law (meant h) ready.known valued ws row is) ∙ ap (λ k. in_row k (conditions15 l (meant h))) ready.next
 
-    pub good_row : None ≡ in_row (length v.entries + 1) (conditions15 l (meant h)) → Good l row
+    good_row : None ≡ in_row (length v.entries + 1) (conditions15 l (meant h)) → Good l row
     good_row e = record { long = is.long; sound = judged_as l law (meant h) ready.known valued ws row is ∙ no_fault _ _ (sym e) }
 
-    pub marked : m ≡ mark_of row
+    marked : m ≡ mark_of row
     marked = ready.marked ∙ sym is.mark
 
-    pub at_owner : (o : Option Refusal) → o ≡ in_row n (owner22 l v.entries (entry_of l row)) → o ≡ in_row (length v.entries + 1) (owner22 l v.entries (meant h))
+    at_owner : (o : Option Refusal) → o ≡ in_row n (owner22 l v.entries (entry_of l row)) → o ≡ in_row (length v.entries + 1) (owner22 l v.entries (meant h))
     at_owner o e = e ∙ ap (λ x. in_row n (owner22 l v.entries x)) is.entry ∙ ap (λ k. in_row k (owner22 l v.entries (meant h))) ready.next
 
-    pub at_sum : (o : Option Refusal) → o ≡ in_row n (sum26 l v.entries (entry_of l row)) → o ≡ in_row (length v.entries + 1) (sum26 l v.entries (meant h))
+    at_sum : (o : Option Refusal) → o ≡ in_row n (sum26 l v.entries (entry_of l row)) → o ≡ in_row (length v.entries + 1) (sum26 l v.entries (meant h))
     at_sum o e = e ∙ ap (λ x. in_row n (sum26 l v.entries x)) is.entry ∙ ap (λ k. in_row k (sum26 l v.entries (meant h))) ready.next
 
-    pub summed : (sum : ℕ) → sum ≡ sum_of l (v.entries ++ entry_of l row ∷ []) → sum ≡ sum_of l (v.entries ++ meant h ∷ [])
+    summed : (sum : ℕ) → sum ≡ sum_of l (v.entries ++ entry_of l row ∷ []) → sum ≡ sum_of l (v.entries ++ meant h ∷ [])
     summed sum e = e ∙ ap (λ x. sum_of l (v.entries ++ x ∷ [])) is.entry
 
   -- the worked numbers of the entry's place fit their fields
-  pub small : None ≡ in_row (length v.entries + 1) (sum26 l v.entries (meant h)) → (r : Working → ℕ) → ((k : Working) → r k ≡ reckon l v.entries (meant h) k) → (k : Working) (w : ℕ) → WorkedWide k w → r k < 10 ^ w
+  small : None ≡ in_row (length v.entries + 1) (sum26 l v.entries (meant h)) → (r : Working → ℕ) → ((k : Working) → r k ≡ reckon l v.entries (meant h) k) → (k : Working) (w : ℕ) → WorkedWide k w → r k < 10 ^ w
   small sum r same k w wide =
       let few : length v.entries + 1 ≤ 65535 = subst (λ x. x ≤ 65535) ready.next ready.few in
       let below : sum_of l (v.entries ++ meant h ∷ []) < 10 ^ 17 = ltb-true _ (10 ^ 17) (unless_true _ _ (no_fault _ _ (sym sum))) in
       subst (λ x. x < 10 ^ w) (sym (same k)) (reckon_fits l v.entries (meant h) few below k w wide)
 
   -- the row with the worked numbers of its place is the entry's
-  pub fit_row : (r : Working → ℕ) → ((k : Working) → r k ≡ reckon l v.entries (meant h) k) → (row : List ℕ) → print_row l (meant h) (reckoned_by r (origins_of l h.mark)) ≡ Ok row →
+  fit_row : (r : Working → ℕ) → ((k : Working) → r k ≡ reckon l v.entries (meant h) k) → (row : List ℕ) → print_row l (meant h) (reckoned_by r (origins_of l h.mark)) ≡ Ok row →
       None ≡ in_row (length v.entries + 1) (conditions15 l (meant h)) → (sum : ℕ) → sum ≡ sum_of l (v.entries ++ meant h ∷ []) → Fit l v h row sum
   fit_row r same row p keeps sum sums =
       let is = row_printed _ row p in
@@ -85,3 +91,49 @@ module _ (l : Layout) (law : Lawful l) (v : Moment) (h : Handed) (n m : ℕ) (re
         read = is.entry;
         sums = sums;
       }
+
+  -- the steps of preparing, one after the other: where each stops, and what it leaves to the next
+  pub stops_printing : (x : Refusal) → Prints (Some x) (worked_of unworked) → Some x ≡ first_some (contents l v h)
+  stops_printing x e = here x _ _ (at_fields (Some x) (worked_of unworked) nothing_fits e)
+
+  module _ (row : List ℕ) (prints : Prints None (worked_of unworked)) (printed : print_row l (meant h) (reckoned_by (worked_of unworked) (origins_of l h.mark)) ≡ Ok row) where
+    is : Printed l (meant h) (reckoned_by (worked_of unworked) (origins_of l h.mark)) row
+    is = row_printed _ row printed
+
+    fields : None ≡ in_row (length v.entries + 1) (fields11 l (meant h))
+    fields = at_fields None (worked_of unworked) nothing_fits prints
+
+    pub stops_judging : (x : Refusal) → Some x ≡ in_row n (first_some (row_faults l row)) → Some x ≡ first_some (contents l v h)
+    stops_judging x e = skip _ _ _ fields (here x _ _ (at_conditions _ row is (Some x) e))
+
+    module _ (judged : None ≡ in_row n (first_some (row_faults l row))) where
+      keeps : None ≡ in_row (length v.entries + 1) (conditions15 l (meant h))
+      keeps = at_conditions _ row is None judged
+
+      pub reads : (next : NextRow) → next.kind.mark ≡ m → next.row.now ≡ row → IsRead l next
+      reads next kind same = record { good = subst (Good l) (sym same) (good_row _ row is keeps); marked = kind ∙ marked _ row is ∙ ap mark_of (sym same) }
+
+      pub stops_tying : (x : Refusal) → Some x ≡ in_row n (owner22 l v.entries (entry_of l row)) → Some x ≡ first_some (contents l v h)
+      stops_tying x e = skip _ _ _ fields (skip _ _ _ keeps (here x _ _ (at_owner _ row is (Some x) e)))
+
+      module _ (tied : None ≡ in_row n (owner22 l v.entries (entry_of l row))) where
+        owner : None ≡ in_row (length v.entries + 1) (owner22 l v.entries (meant h))
+        owner = at_owner _ row is None tied
+
+        pub stops_summing : (x : Refusal) → Some x ≡ in_row n (sum26 l v.entries (entry_of l row)) → Some x ≡ first_some (contents l v h)
+        stops_summing x e = skip _ _ _ fields (skip _ _ _ keeps (skip _ _ _ owner (here x _ _ (at_sum _ row is (Some x) e))))
+
+        module _ (added : None ≡ in_row n (sum26 l v.entries (entry_of l row))) (sum : ℕ) (sums : sum ≡ sum_of l (v.entries ++ entry_of l row ∷ [])) where
+          pub all_pass : None ≡ first_some (contents l v h)
+          all_pass = skip _ _ _ fields (skip _ _ _ keeps (skip _ _ _ owner (skip _ _ _ (at_sum _ row is None added) refl)))
+
+          pub total_is : sum ≡ sum_of l (v.entries ++ meant h ∷ [])
+          total_is = summed _ row is sum sums
+
+          -- the second print
+          module _ (w : Worked) (right : (k : Working) → worked_of w k ≡ reckon l v.entries (meant h) k) where
+            pub prints_again : (x : Refusal) → Prints (Some x) (worked_of w) → Some x ≡ first_some (contents l v h)
+            prints_again x e = some_none (at_fields (Some x) (worked_of w) (small (at_sum _ row is None added) (worked_of w) right) e ∙ sym fields)
+
+            pub fits : (again : List ℕ) → print_row l (meant h) (reckoned_by (worked_of w) (origins_of l h.mark)) ≡ Ok again → Fit l v h again sum
+            fits again e = fit_row (worked_of w) right again e keeps sum total_is

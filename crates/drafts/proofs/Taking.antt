@@ -10,7 +10,8 @@ use Rattle.records.specs.Entries.{Handed, meant, handed31, value_fault}
 use Rattle.records.proofs.Options.{none_all, all_none, some_none, no_fault, unless_true, true_unless}
 use Rattle.legality.specs.Checks.{Call, row27, order20, group21, owner22, sum26, asks}
 use Rattle.lives.specs.Draft.{Moment, allows, judged, next}
-use Rattle.drafts.specs.Standing.{admission, contents, Ready}
+use Rattle.drafts.specs.declared.drafts.Draft.{Draft}
+use Rattle.drafts.specs.Standing.{Shows, admission, contents, Ready}
 
 -- the same checks, nested and one after the other
 flat : (n : ℕ) (a : Option Refusal) (b d : Option Fault) (u : Option Refusal) (q o g f k w s : Option Fault) (t : Option Refusal) →
@@ -75,9 +76,10 @@ module _ (l : Layout) (v : Moment) (c : Call) (h : Handed) where
       no_value None e = refl
       no_value (Some n) e = some_none e
 
-  -- what a draft stands for after a refused call, and after one that takes its entry
-  pub stays : {D : Type 0} (Sh : D → Moment → Type 0) (d : D) (x : Refusal) → Some x ≡ judged l v c h → Sh d v → Sh d (next l (judged l v c h) v c h)
-  stays Sh d x e s = subst (λ j. Sh d (next l j v c h)) e s
+  -- what a draft stands for after a call that leaves it, and after one that takes its entry
+  module _ {B C : Type 0} (rows : C → List (List ℕ)) (places : C → ℕ) (d : Draft B C) where
+    pub stays : (x : Refusal) → Some x ≡ judged l v c h → Shows l rows places d v → (Some x ≡ judged l v c h) × Shows l rows places d (next l (judged l v c h) v c h)
+    stays x e s = (e, subst (λ j. Shows l rows places d (next l j v c h)) e s)
 
-  pub goes_on : {D : Type 0} (Sh : D → Moment → Type 0) (d : D) → None ≡ judged l v c h → Sh d (next l None v c h) → Sh d (next l (judged l v c h) v c h)
-  goes_on Sh d e s = subst (λ j. Sh d (next l j v c h)) e s
+    pub goes_on : None ≡ judged l v c h → Shows l rows places d (next l None v c h) → (None ≡ judged l v c h) × Shows l rows places d (next l (judged l v c h) v c h)
+    goes_on e s = (e, subst (λ j. Shows l rows places d (next l j v c h)) e s)

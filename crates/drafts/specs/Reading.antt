@@ -16,7 +16,7 @@ use Rattle.refusals.specs.Refusals.{refusal_in, of_draft}
 use Rattle.layouts.specs.Layout.{Layout}
 use Rattle.drafts.specs.declared.drafts.Draft.{Draft}
 use Rattle.lives.specs.Drafts.{LifeOf}
-use Rattle.drafts.specs.Standing.{Shows}
+use Rattle.drafts.specs.Standing.{CarrierOf, Shows}
 use Rattle.drafts.specs.Runs.{Answer}
 
 -- the reader's part of the exchange law, about what check and take answer on any source
@@ -27,3 +27,6 @@ pub record ReadBack (B : Type 0) {C S : Type 0} (l : Layout) (rows : C → List 
   pub backed : (s : S) (a : Accepted) → told (Ok a) ≡ checked l (rows_in s) → OneLegal l (rows_in s) (accepted_of a)
   -- and from those rows take hands out that list's values
   pub hands : (es : List Entry) → Legal l es → (s : S) → rows_in s ≡ rows_of l es → (i n : ℕ) → i < length es → 0 < n → n ≤ length (get_or es i no_entry).values → (t : Result Taken TakeFault) → took t ≡ take_value l (slice_index_or (rows_in s) i []) n → took t ≡ Ok (slice_index_or (get_or es i no_entry).values (n - 1) (num 0))
+
+abbrev pub ReadBackOn : (B : Type 0) {C S : Type 0} → Layout → CarrierOf C → (S → List (List ℕ)) → Type 0
+ReadBackOn B l on rows_in = ReadBack B l on.rows on.places rows_in

@@ -8,7 +8,7 @@ use Rattle.refusals.specs.declared.draft.DraftFault.{DraftFault}
 use Rattle.drafts.specs.declared.running.Request.{Request}
 use Rattle.lives.specs.Drafts.{RanOf, ExchangeOf}
 use Rattle.lives.specs.Life.{Asked, ask}
-use Rattle.drafts.specs.Standing.{Shows, seen_in}
+use Rattle.drafts.specs.Standing.{CarrierOf, Shows, seen_in}
 use Rattle.lives.specs.States.{call_of}
 
 abbrev pub Answer : Type 0
@@ -31,3 +31,10 @@ accepted (Err e ∷ rs) = accepted rs
 -- from the draft d the calls lead to d', and n of them were accepted
 abbrev pub Ran : {B C : Type 0} → Layout → (C → List (List ℕ)) → (C → ℕ) → Draft B C → List Asked → ℕ → Draft B C → Type 0
 Ran {B} {C} l rows places d qs n d' = (rs : List Answer) × RanOf l {D = Draft B C} (refusal_in of_draft) (Shows l rows places) d qs rs d' × (n ≡ accepted rs)
+
+-- the law, and a run, on such carriers
+abbrev pub ExchangedOn : (B : Type 0) {C D : Type 0} → Layout → CarrierOf C → CarrierOf D → Type 0
+ExchangedOn B l on on' = Exchanged B l on.rows on.places on'.rows on'.places
+
+abbrev pub RanOn : {B C : Type 0} → Layout → CarrierOf C → Draft B C → List Asked → ℕ → Draft B C → Type 0
+RanOn l on d qs n d' = Ran l on.rows on.places d qs n d'

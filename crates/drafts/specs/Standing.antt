@@ -1,8 +1,8 @@
 -- What a draft of the program stands for, and what its calls promise.
-use Rattle.std.specs.Prelude.{◌≡◌, ℕ, ◌+◌, ◌≤◌, List, [], ◌∷◌, ◌++◌, length, None, Ok, Err, Option, Result}
+use Rattle.std.specs.Prelude.{◌≡◌, ℕ, ◌+◌, ◌<◌, ◌≤◌, List, [], ◌∷◌, ◌++◌, length, slice_index_or, None, Ok, Err, Option, Result}
 use Rattle.refusals.specs.declared.table.Refusal.{Refusal}
 use Rattle.refusals.specs.declared.draft.DraftFault.{DraftFault}
-use Rattle.refusals.specs.Refusals.{refusal}
+use Rattle.refusals.specs.Refusals.{refusal, refusal_in, of_draft}
 use Rattle.refusals.specs.Faults.{fault, in_row, unless, first_some}
 use Rattle.rows.specs.Rows.{put_all}
 use Rattle.layouts.specs.Layout.{Layout}
@@ -13,7 +13,7 @@ use Rattle.legality.specs.Before.{row_of, sum_of}
 use Rattle.standings.specs.Standing.{Stands, Good}
 use Rattle.drafts.specs.declared.drafts.Draft.{Draft}
 use Rattle.lives.specs.Draft.{Moment, allows}
-use Rattle.lives.specs.Drafts.{Seen}
+use Rattle.lives.specs.Drafts.{Seen, Called}
 use Rattle.lives.specs.States.{state_of}
 
 -- the moments that a draft stands for: every list of entries that its record stands for, with its state and its carrier's rows and places
@@ -22,6 +22,25 @@ Shows l rows places d v = (state_of d.state ≡ v.state) × Stands l d.progress 
 
 abbrev pub seen_in : {B C : Type 0} → (C → List (List ℕ)) → (C → ℕ) → Seen (Draft B C)
 seen_in rows places = record { rows = λ d. rows d.carrier; places = λ d. places d.carrier; state = λ d. state_of d.state }
+
+-- what the bound of a type of carriers says of its values: `C.Carrier` of a clause
+abbrev pub CarrierOf : Type 0 → Type 0
+CarrierOf C = record {
+  rows : C → List (List ℕ);
+  whole : (c : C) (k : ℕ) → k < length (rows c) → length (slice_index_or (rows c) k []) ≡ 750;
+  places : C → ℕ;
+  memory : C → List ℕ;
+  size : ℕ;
+  line : List ℕ → List ℕ;
+  lenders : C → List ℕ;
+}
+
+-- the same, and what a call promises of every moment, where these carriers are meant
+abbrev pub ShowsOn : {B C : Type 0} → Layout → CarrierOf C → Draft B C → Moment → Type 0
+ShowsOn l on d v = Shows l on.rows on.places d v
+
+abbrev pub CalledOn : {B C : Type 0} → Layout → CarrierOf C → Draft B C → Call → Handed → Result (Unit {0}) DraftFault → Draft B C → Type 0
+CalledOn l on d c h r d' = Called l (refusal_in of_draft) (ShowsOn l on) d c h r d'
 
 -- a refused call leaves the very draft that was there
 abbrev pub Kept : {D : Type 0} → D → D → Result (Unit {0}) DraftFault → Type 0
@@ -36,6 +55,9 @@ pub record Wrote {B C : Type 0} (rows : C → List (List ℕ)) (memory lenders :
   pub lines : memory d'.carrier ≡ put_all size line (memory d.carrier) (length (rows d.carrier)) added
   pub loans : lenders d'.carrier ≡ lenders d.carrier
   pub book : d'.book ≡ d.book
+
+abbrev pub WroteOn : {B C : Type 0} → CarrierOf C → Draft B C → Draft B C → Type 0
+WroteOn on d d' = Wrote on.rows on.memory on.lenders on.size on.line d d'
 
 -- the checks of a call before its row is printed, in their order
 abbrev pub admission : Layout → Moment → Call → Handed → List (Option Refusal)

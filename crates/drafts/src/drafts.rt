@@ -8,8 +8,7 @@ ghost use Rattle.legality.specs.Checks.{starts, adds, closes};
 ghost use Rattle.standings.specs.Standing.{Stands};
 ghost use Rattle.lives.specs.declared.states.State.TheVariants.{Fresh};
 ghost use Rattle.lives.specs.Draft.{Moment, state_after};
-ghost use Rattle.drafts.specs.Standing.{Shows, Kept, Wrote, admission, contents, Ready, Fit};
-ghost use Rattle.lives.specs.Drafts.{Called};
+ghost use Rattle.drafts.specs.Standing.{ShowsOn, CalledOn, Kept, WroteOn, admission, contents, Ready, Fit};
 ghost use Rattle.lives.specs.States.{state_of, call_of};
 
 use entries::{check_values, print};
@@ -20,6 +19,7 @@ use numbers::cents::Cents;
 use records::{Entry, Worked, find_marked, judge};
 use refusals::DraftFault;
 use rows::Carrier;
+use standings::next::NextRow;
 use standings::progress::Progress;
 
 #[derive(Drop)]
@@ -56,8 +56,10 @@ const UNWORKED: Worked = Worked {
 impl<B: Book, C: Carrier> Draft<B, C> {
     // A fresh draft. Its rows are numbered from 1 whatever the carrier holds.
     pub fn new(book: B, carrier: C) -> Draft<B, C>
-        ensures fresh { (result.carrier ≡ carrier) × ((result.state ≡ Fresh) × (Stands B.Meant.meaning result.progress [])) }
+        ensures carrier { result.carrier ≡ carrier }
         ensures book { result.book ≡ book }
+        ensures state { result.state ≡ Fresh }
+        ensures stands { Stands B.meaning result.progress [] }
     {
         Draft {
             book,
@@ -69,10 +71,10 @@ impl<B: Book, C: Carrier> Draft<B, C> {
 
     // The checks before the row is printed.
     fn admit(&self, call: Call, entry: Entry) -> Result<Admitted, DraftFault>
-        ensures refused { (v : Moment) → Shows B.Meant.meaning C.Source.rows C.Carrier.places self.now v → refusal_in of_draft result ≡ first_some (admission B.Meant.meaning v (call_of call) (handed_of entry.entry)) }
+        ensures refused { (v : Moment) → ShowsOn B.meaning C.Carrier self.now v → refusal_in of_draft result ≡ first_some (admission B.meaning v (call_of call) (handed_of entry.entry)) }
         ensures state { IfOk result (λ a. state_of a.state ≡ state_after (call_of call) entry.entry.mark) }
         ensures kind { IfOk result (λ a. a.kind.mark ≡ entry.entry.mark) }
-        ensures number { (v : Moment) → Shows B.Meant.meaning C.Source.rows C.Carrier.places self.now v → IfOk result (λ a. a.row_number ≡ length v.entries + 1) }
+        ensures number { (v : Moment) → ShowsOn B.meaning C.Carrier self.now v → IfOk result (λ a. a.row_number ≡ length v.entries + 1) }
     {
         self.state.allow(call)?;
         let row_number = self.progress.next_number()?;
@@ -90,17 +92,19 @@ impl<B: Book, C: Carrier> Draft<B, C> {
     // The row of an admitted entry: its fields, its conditions, its owner and the sum.
     // The total is known only once the entry's own amount was read from its row, so the row is printed again with it.
     fn prepare(&self, admitted: Admitted, entry: Entry) -> Result<Prepared, DraftFault>
-        ensures refused { (v : Moment) → Shows B.Meant.meaning C.Source.rows C.Carrier.places self.now v → Ready B.Meant.meaning v (handed_of entry.entry) admitted.row_number admitted.kind.mark → refusal_in of_draft result ≡ first_some (contents B.Meant.meaning v (handed_of entry.entry)) }
-        ensures fit { (v : Moment) → Shows B.Meant.meaning C.Source.rows C.Carrier.places self.now v → Ready B.Meant.meaning v (handed_of entry.entry) admitted.row_number admitted.kind.mark → IfOk result (λ p. Fit B.Meant.meaning v (handed_of entry.entry) p.row p.sum.value) }
+        ensures refused { (v : Moment) → ShowsOn B.meaning C.Carrier self.now v → Ready B.meaning v (handed_of entry.entry) admitted.row_number admitted.kind.mark → refusal_in of_draft result ≡ first_some (contents B.meaning v (handed_of entry.entry)) }
+        ensures fit { (v : Moment) → ShowsOn B.meaning C.Carrier self.now v → Ready B.meaning v (handed_of entry.entry) admitted.row_number admitted.kind.mark → IfOk result (λ p. Fit B.meaning v (handed_of entry.entry) p.row p.sum.value) }
     {
         let mut row = [b' '; 750];
         print(&self.book, entry, UNWORKED, admitted.row_number, &mut row)?;
         judge(&self.book, admitted.row_number, &row)?;
-        self.progress
-            .tie(&self.book, admitted.row_number, admitted.kind, &row)?;
-        let sum = self
-            .progress
-            .sum_with(&self.book, admitted.row_number, admitted.kind, &row)?;
+        let next = NextRow {
+            number: admitted.row_number,
+            kind: admitted.kind,
+            row: &row,
+        };
+        self.progress.tie(&self.book, next)?;
+        let sum = self.progress.sum_with(&self.book, next)?;
         let worked = self
             .progress
             .worked(&self.book, admitted.row_number, admitted.kind, sum);
@@ -110,47 +114,46 @@ impl<B: Book, C: Carrier> Draft<B, C> {
 
     // One call: the entry is taken, or refused and nothing changes.
     fn take_entry(&mut self, call: Call, entry: Entry) -> Result<(), DraftFault>
-        ensures told { Called B.Meant.meaning (refusal_in of_draft) (Shows B.Meant.meaning C.Source.rows C.Carrier.places) self.old (call_of call) (handed_of entry.entry) result self.new }
+        ensures told { CalledOn B.meaning C.Carrier self.old (call_of call) (handed_of entry.entry) result self.new }
         ensures kept { Kept self.old self.new result }
-        ensures wrote { Wrote C.Source.rows C.Carrier.memory C.Carrier.lenders C.Carrier.size C.Carrier.line self.old self.new }
+        ensures wrote { WroteOn C.Carrier self.old self.new }
     {
         let admitted = self.admit(call, entry)?;
         let prepared = self.prepare(admitted, entry)?;
         self.carrier.push(&prepared.row)?;
-        self.progress.advance(
-            &self.book,
-            admitted.row_number,
-            admitted.kind,
-            &prepared.row,
-            prepared.sum,
-        );
+        let next = NextRow {
+            number: admitted.row_number,
+            kind: admitted.kind,
+            row: &prepared.row,
+        };
+        self.progress.advance(&self.book, next, prepared.sum);
         self.state = admitted.state;
         Ok(())
     }
 
     // Takes the header. The draft must be fresh.
     pub fn start(&mut self, entry: Entry) -> Result<(), DraftFault>
-        ensures told { Called B.Meant.meaning (refusal_in of_draft) (Shows B.Meant.meaning C.Source.rows C.Carrier.places) self.old starts (handed_of entry.entry) result self.new }
+        ensures told { CalledOn B.meaning C.Carrier self.old starts (handed_of entry.entry) result self.new }
         ensures kept { Kept self.old self.new result }
-        ensures wrote { Wrote C.Source.rows C.Carrier.memory C.Carrier.lenders C.Carrier.size C.Carrier.line self.old self.new }
+        ensures wrote { WroteOn C.Carrier self.old self.new }
     {
         self.take_entry(Call::Start, entry)
     }
 
     // Takes an entry of any other kind than header and trailer. The draft must be open.
     pub fn add(&mut self, entry: Entry) -> Result<(), DraftFault>
-        ensures told { Called B.Meant.meaning (refusal_in of_draft) (Shows B.Meant.meaning C.Source.rows C.Carrier.places) self.old adds (handed_of entry.entry) result self.new }
+        ensures told { CalledOn B.meaning C.Carrier self.old adds (handed_of entry.entry) result self.new }
         ensures kept { Kept self.old self.new result }
-        ensures wrote { Wrote C.Source.rows C.Carrier.memory C.Carrier.lenders C.Carrier.size C.Carrier.line self.old self.new }
+        ensures wrote { WroteOn C.Carrier self.old self.new }
     {
         self.take_entry(Call::Add, entry)
     }
 
     // Takes the trailer. The draft must be open, and is then closed.
     pub fn close(&mut self, entry: Entry) -> Result<(), DraftFault>
-        ensures told { Called B.Meant.meaning (refusal_in of_draft) (Shows B.Meant.meaning C.Source.rows C.Carrier.places) self.old closes (handed_of entry.entry) result self.new }
+        ensures told { CalledOn B.meaning C.Carrier self.old closes (handed_of entry.entry) result self.new }
         ensures kept { Kept self.old self.new result }
-        ensures wrote { Wrote C.Source.rows C.Carrier.memory C.Carrier.lenders C.Carrier.size C.Carrier.line self.old self.new }
+        ensures wrote { WroteOn C.Carrier self.old self.new }
     {
         self.take_entry(Call::Close, entry)
     }
@@ -164,14 +167,9 @@ impl<B: Book, C: Carrier> Draft<B, C> {
 
     // The book and the carrier again.
     pub fn into_parts(self) -> (B, C)
-        ensures { (result.0 ≡ self.book) × (result.1 ≡ self.carrier) }
+        ensures book { result.0 ≡ self.book }
+        ensures carrier { result.1 ≡ self.carrier }
     {
-        let Draft {
-            book,
-            carrier,
-            state: _,
-            progress: _,
-        } = self;
-        (book, carrier)
+        (self.book, self.carrier)
     }
 }

@@ -1,10 +1,8 @@
 // Many calls on a draft, one after the other, and the law about its whole life.
 ghost use Rattle.std.specs.Prelude.{map};
-ghost use Rattle.refusals.specs.Refusals.{refusal_in, of_draft};
-ghost use Rattle.lives.specs.Drafts.{Called};
-ghost use Rattle.drafts.specs.Reading.{ReadBack};
-ghost use Rattle.drafts.specs.Runs.{asked_in, Exchanged, Ran};
-ghost use Rattle.drafts.specs.Standing.{Shows, Wrote};
+ghost use Rattle.drafts.specs.Reading.{ReadBackOn};
+ghost use Rattle.drafts.specs.Runs.{asked_in, ExchangedOn, RanOn};
+ghost use Rattle.drafts.specs.Standing.{CalledOn, WroteOn};
 
 use crate::drafts::Draft;
 use layouts::book::Book;
@@ -20,20 +18,19 @@ pub struct Request<'a, 'b> {
 }
 
 // The law of exchange between entries and rows, for drafts of one book on any two carriers.
-pub fn exchange_law<B: Book, C: Carrier, D: Carrier>() -> u8
-    ensures { Exchanged B B.Meant.meaning C.Source.rows C.Carrier.places D.Source.rows D.Carrier.places }
-{
-    0
-}
+pub fn exchange_law<B: Book, C: Carrier, D: Carrier>()
+    ensures { ExchangedOn B B.meaning C.Carrier D.Carrier }
+{}
 
 // And for what is read from any source.
 pub fn reading_law<B: Book, C: Carrier, S: Source>()
-    ensures { ReadBack B B.Meant.meaning C.Source.rows C.Carrier.places S.Source.rows }
+    ensures { ReadBackOn B B.meaning C.Carrier S.Source.rows }
 {}
 
+// A request names its call by a value and no closure, since the contract of a run reads it.
 fn apply<B: Book, C: Carrier>(draft: &mut Draft<B, C>, request: Request) -> Result<(), DraftFault>
-    ensures wrote { Wrote C.Source.rows C.Carrier.memory C.Carrier.lenders C.Carrier.size C.Carrier.line draft.old draft.new }
-    ensures told { Called B.Meant.meaning (refusal_in of_draft) (Shows B.Meant.meaning C.Source.rows C.Carrier.places) draft.old (asked_in request.entry).call (asked_in request.entry).handed result draft.new }
+    ensures wrote { WroteOn C.Carrier draft.old draft.new }
+    ensures told { CalledOn B.meaning C.Carrier draft.old (asked_in request.entry).call (asked_in request.entry).handed result draft.new }
 {
     match request.call {
         Call::Start => draft.start(request.entry),
@@ -44,16 +41,15 @@ fn apply<B: Book, C: Carrier>(draft: &mut Draft<B, C>, request: Request) -> Resu
 
 // Makes the calls in their order, accepted and refused in any mixture, and answers how many were accepted.
 pub fn run<B: Book, C: Carrier>(draft: &mut Draft<B, C>, requests: &[Request]) -> usize
-    ensures ran { Ran B.Meant.meaning C.Source.rows C.Carrier.places draft.old (map asked_in requests.now) result draft.new }
-    ensures wrote { Wrote C.Source.rows C.Carrier.memory C.Carrier.lenders C.Carrier.size C.Carrier.line draft.old draft.new }
-    ensures law { Exchanged B B.Meant.meaning C.Source.rows C.Carrier.places C.Source.rows C.Carrier.places }
-    ensures read { ReadBack B B.Meant.meaning C.Source.rows C.Carrier.places C.Source.rows }
+    ensures ran { RanOn B.meaning C.Carrier draft.old (map asked_in requests.now) result draft.new }
+    ensures wrote { WroteOn C.Carrier draft.old draft.new }
+    ensures law { ExchangedOn B B.meaning C.Carrier C.Carrier }
+    ensures read { ReadBackOn B B.meaning C.Carrier C.Source.rows }
 {
     let mut accepted = 0;
     for request in requests {
-        match apply(draft, *request) {
-            Ok(()) => accepted += 1,
-            Err(_) => {}
+        if apply(draft, *request).is_ok() {
+            accepted += 1;
         }
     }
     accepted

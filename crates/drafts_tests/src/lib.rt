@@ -8,7 +8,7 @@ mod tests {
     use forms::Flat;
     use outgoing_receipts::OutgoingReceipts;
     use refusals::{DraftFault, Refusal};
-    use rows::{Filling, Written};
+    use rows::Written;
     use std::test::Fail;
 
     // A header, a charge, and as many followers: the fault that ended it.
@@ -27,13 +27,11 @@ mod tests {
     fn the_fiftieth_follower_passes_and_the_next_is_refused(rt: HostRuntime) -> Result<(), Fail> {
         let mut memory = [0u8; 41_250];
         assert!(rt; with_followers(50, &mut memory).is_ok(), "fifty");
-        match with_followers(51, &mut memory) {
-            Ok(()) => Err(Fail::new("fifty-one are taken")),
-            Err(fault) => {
-                let refusal = fault.refusal();
-                assert!(rt; refusal.number == 21 && refusal.first == 53 && refusal.second == 1);
-                Ok(())
-            }
-        }
+        let Err(fault) = with_followers(51, &mut memory) else {
+            return Err(Fail::new("fifty-one are taken"));
+        };
+        let refusal = fault.refusal();
+        assert!(rt; refusal.number == 21 && refusal.first == 53 && refusal.second == 1);
+        Ok(())
     }
 }

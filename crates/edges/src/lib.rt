@@ -4,11 +4,9 @@
 ghost use Rattle.edges.specs.Edges.{EdgesHold};
 ghost use Rattle.edges.specs.Table.{TableHolds};
 
-pub fn edges_hold() -> u8
+pub fn edges_hold()
     ensures { EdgesHold }
-{
-    0
-}
+{}
 
 // One table of edges, with whole files.
 pub fn table_holds()

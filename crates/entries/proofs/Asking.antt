@@ -1,97 +1,88 @@
--- The turns of the loops over what the fields ask of an entry.
-use Rattle.std.proofs.Common.{◌≡◌, ℕ, ◌+◌, ◌<◌, ◌≤◌, min, Bool, true, false, cond, List, ◌∷◌, map, length, get_or, drop, Some, None, Option, sym, refl, ap, ◌∙◌, arith}
-use Rattle.std.proofs.lemmas.List.{length-map, at_drop_more, at_drop_all}
-use Rattle.std.proofs.lemmas.Bool.{eq-eqb, ne_eqb}
+-- What the fields ask of an entry, one after the other.
+use Rattle.std.proofs.Common.{◌≡◌, ℕ, ◌+◌, ◌<◌, true, false, cond, List, [], ◌∷◌, map, length, get_or, drop, Some, None, Option, sym, refl, ap, ◌∙◌}
+use Rattle.std.specs.List.{cons_option, enumerate_from, filter, filter_map, zip}
+use Rattle.std.specs.Option.{is_some, option_or}
+use Rattle.std.proofs.lemmas.List.{length-map, at_drop_more}
 use Rattle.refusals.specs.declared.table.Refusal.{Refusal}
 use Rattle.refusals.specs.Refusals.{refusal}
 use Rattle.refusals.specs.Faults.{unless}
 use Rattle.fields.specs.Field as s
-use Rattle.fields.specs.Meaning.{field_of}
+use Rattle.fields.specs.Meaning.{field_of, sort_of}
 use Rattle.fields.specs.declared.field.Field.{Field}
+use Rattle.fields.specs.declared.field.Sort.{Sort}
+use Rattle.fields.specs.declared.field.Sort.TheVariants.{Constant, Blank, Text, Word, Number, Code, Date, Amount, LongDigits, Worked}
 use Rattle.entries.specs.declared.origins.Asked.{Asked}
 use Rattle.entries.specs.declared.origins.Origin.{Origin}
-use Rattle.entries.specs.declared.origins.Origin.TheVariants.{Book, Entered, Worked}
-use Rattle.entries.specs.Asked.{origin_of, asks_for, asked_by}
+use Rattle.entries.specs.declared.origins.Origin.TheVariants as code
+use Rattle.entries.specs.Asked.{origin_of, origin_in, asks_for, asked_at, asked_in, asked_by}
+use Rattle.entries.specs.Taking.{entered_next, entered_of}
 use Rattle.records.specs.declared.entries.Value.{Value}
 use Rattle.records.specs.Cells as c
-use Rattle.records.specs.Cells.{first_other, wrong_value}
+use Rattle.records.specs.Cells.{first_other}
 use Rattle.records.specs.Entries.{suits, value_fault}
-use Rattle.records.proofs.Options.{some_none}
 
-refused_at : (b : Bool) (n : ℕ) (o : Option ℕ) (x : Refusal) → Some x ≡ unless b (refusal 31 n 0) → Some x ≡ value_fault (cond b o (Some n))
-refused_at true n o x e = some_none e
-refused_at false n o x e = e
+origin_by : (x : Sort) (a : ℕ) → c.origin_at a (s.family (sort_of x)) ≡ origin_of a (origin_in x)
+origin_by (Constant c) a = refl
+origin_by Blank a = refl
+origin_by Text a = refl
+origin_by (Word us) a = refl
+origin_by Number a = refl
+origin_by (Code cs) a = refl
+origin_by Date a = refl
+origin_by Amount a = refl
+origin_by LongDigits a = refl
+origin_by (Worked k) a = refl
 
-no_other : (b : Bool) (n : ℕ) (o : Option ℕ) → cond b o (Some n) ≡ None → b ≡ true
-no_other true n o e = refl
-no_other false n o e = some_none e
+pub origin_is : (f : Field) → c.origin (field_of f) ≡ origin_of f.start (origin_in f.sort)
+origin_is f = origin_by f.sort f.start
 
--- the next field is one that an entry has no value for, or one that it has
-module _ (fields : List Field) (i : ℕ) (d : Field) (l : i < length fields) where
-  pub ask_none : (o : Origin) → ((a : Asked) → o ≡ Entered a → ⊥) → c.origin (field_of (get_or fields i d)) ≡ origin_of (get_or fields i d).start o → asked_by (drop i fields) ≡ asked_by (drop (i + 1) fields)
-  ask_none Book none is = at_drop_more asked_by fields i d l ∙ ap (λ x. c.sorts_asked (x ∷ c.origins (map field_of (drop (i + 1) fields)))) is
-  ask_none (Entered a) none is = absurd (none a refl)
-  ask_none (Worked k) none is = at_drop_more asked_by fields i d l ∙ ap (λ x. c.sorts_asked (x ∷ c.origins (map field_of (drop (i + 1) fields)))) is
+-- the tests are those of what is asked
+asks_next : (o : Origin) (a : ℕ) (os : List c.Origin) (xs : List Asked) → c.sorts_asked os ≡ map asks_for xs → c.sorts_asked (origin_of a o ∷ os) ≡ map asks_for (cons_option (asked_at o) xs)
+asks_next code.Book a os xs e = e
+asks_next (code.Entered k) a os xs e = ap (λ ps. asks_for k ∷ ps) e
+asks_next (code.Worked k) a os xs e = e
 
-  pub ask_one : (a : Asked) → c.origin (field_of (get_or fields i d)) ≡ c.entered (asks_for a) → asked_by (drop i fields) ≡ asks_for a ∷ asked_by (drop (i + 1) fields)
-  ask_one a is = at_drop_more asked_by fields i d l ∙ ap (λ x. c.sorts_asked (x ∷ c.origins (map field_of (drop (i + 1) fields)))) is
+pub asks_are : (fields : List Field) → asked_by fields ≡ map asks_for (filter_map asked_in fields)
+asks_are [] = refl
+asks_are (f ∷ fs) = rw (origin_is f) (asks_next (origin_in f.sort) f.start (c.origins (map field_of fs)) (filter_map asked_in fs) (asks_are fs))
 
--- the next value suits, or is the first that does not
-module _ (pool : List ℕ) (values : List Value) (next : ℕ) (d : Value) (l : next < length values) (p : s.Value → Bool) (ps : List (s.Value → Bool)) where
-  pub next_value : first_other (next + 1) (map (suits pool) (p ∷ ps)) (drop next values) ≡ cond (suits pool p (get_or values next d)) (first_other (next + 1 + 1) (map (suits pool) ps) (drop (next + 1) values)) (Some (next + 1))
-  next_value = at_drop_more (first_other (next + 1) (map (suits pool) (p ∷ ps))) values next d l
+pub asks_count : (fields : List Field) → length (filter_map asked_in fields) ≡ length (asked_by fields)
+asks_count fields = sym (ap length (asks_are fields) ∙ length-map (filter_map asked_in fields) asks_for)
 
-  pub value_refused : (x : Refusal) → Some x ≡ unless (suits pool p (get_or values next d)) (refusal 31 (next + 1) 0) → Some x ≡ value_fault (first_other (next + 1) (map (suits pool) (p ∷ ps)) (drop next values))
-  value_refused x e = refused_at (suits pool p (get_or values next d)) (next + 1) _ x e ∙ ap value_fault (sym next_value)
+-- the fields that are asked for
+enters_next : (o : Origin) (a : ℕ) (f : Field) (xs : List s.Field) (ys : List Field) → xs ≡ map field_of ys → entered_next (origin_of a o) (field_of f) xs ≡ map field_of (cond (is_some (asked_at o)) (f ∷ ys) ys)
+enters_next code.Book a f xs ys e = e
+enters_next (code.Entered k) a f xs ys e = ap (λ xs. field_of f ∷ xs) e
+enters_next (code.Worked k) a f xs ys e = e
 
-  pub value_suits : suits pool p (get_or values next d) ≡ true → first_other (next + 1 + 1) (map (suits pool) ps) (drop (next + 1) values) ≡ first_other (next + 1) (map (suits pool) (p ∷ ps)) (drop next values)
-  value_suits e = sym (next_value ∙ ap (λ b. cond b (first_other (next + 1 + 1) (map (suits pool) ps) (drop (next + 1) values)) (Some (next + 1))) e)
+pub entered_are : (fields : List Field) → entered_of (map field_of fields) ≡ map field_of (filter (λ f. is_some (asked_in f)) fields)
+entered_are [] = refl
+entered_are (f ∷ fs) = rw (origin_is f) (enters_next (origin_in f.sort) f.start f (entered_of (map field_of fs)) (filter (λ f. is_some (asked_in f)) fs) (entered_are fs))
 
--- the fields before i have had the values before next
-pub record Asking (fields : List Field) (values : List Value) (pool : List ℕ) (i next : ℕ) : Type 0 where
-  pub even : next + length (asked_by (drop i fields)) ≡ length values
-  pub same : first_other (next + 1) (map (suits pool) (asked_by (drop i fields))) (drop next values) ≡ first_other 1 (map (suits pool) (asked_by fields)) values
+-- each value after what is asked for, with its place from 0
+abbrev pub placed : List Field → List Value → List (ℕ × (Asked × Value))
+placed fields values = enumerate_from 0 (zip (filter_map asked_in fields) values)
 
-module _ (fields : List Field) (values : List Value) (pool : List ℕ) where
-  pub asking_none : length (asked_by fields) ≡ length values → Asking fields values pool 0 0
-  asking_none e = record { even = omega arith; same = refl }
+-- what the first value that does not suit is refused with
+module _ (pool : List ℕ) where
+  abbrev pub refused_at : ℕ × (Asked × Value) → Option Refusal
+  refused_at p = unless (suits pool (asks_for p.1.0) p.1.1) (refusal 31 (p.0 + 1) 0)
 
-  module _ (i next : ℕ) (a : Asking fields values pool i next) where
-    pub asking_all : length fields ≤ i → None ≡ first_other 1 (map (suits pool) (asked_by fields)) values
-    asking_all h = sym (at_drop_all (λ fields. first_other (next + 1) (map (suits pool) (asked_by fields)) (drop next values)) fields i h) ∙ a.same
+  abbrev pub refused : List (ℕ × (Asked × Value)) → Option Refusal
+  refused [] = None
+  refused (p ∷ ps) = option_or (refused_at p) (refused ps)
 
-    pub asking_skip : asked_by (drop i fields) ≡ asked_by (drop (i + 1) fields) → Asking fields values pool (i + 1) next
-    asking_skip e = record { even = ap (λ ps. next + length ps) (sym e) ∙ a.even; same = ap (λ ps. first_other (next + 1) (map (suits pool) ps) (drop next values)) (sym e) ∙ a.same }
+  refused_from : (n : ℕ) (xs : List Asked) (vs : List Value) → refused (enumerate_from n (zip xs vs)) ≡ value_fault (first_other (n + 1) (map (suits pool) (map asks_for xs)) vs)
+  refused_from n [] vs = refl
+  refused_from n (x ∷ xs) [] = refl
+  refused_from n (x ∷ xs) (v ∷ vs) =
+      elim (suits pool (asks_for x) v) as (λ b. option_or (unless b (refusal 31 (n + 1) 0)) (refused (enumerate_from (n + 1) (zip xs vs))) ≡ value_fault (cond b (first_other (n + 1 + 1) (map (suits pool) (map asks_for xs)) vs) (Some (n + 1)))) [
+        | true ↦ refused_from (n + 1) xs vs
+        | false ↦ refl
+      ]
 
-    module _ (p : s.Value → Bool) (one : asked_by (drop i fields) ≡ p ∷ asked_by (drop (i + 1) fields)) where
-      pub asking_room : next < length values
-      asking_room = omega (arith, a.even, ap length one)
+  pub refused_is : (fields : List Field) (values : List Value) → refused (placed fields values) ≡ value_fault (first_other 1 (map (suits pool) (asked_by fields)) values)
+  refused_is fields values = rw (asks_are fields) (refused_from 0 (filter_map asked_in fields) values)
 
-      module _ (v : Value) where
-        pub asking_refused : (x : Refusal) → Some x ≡ unless (suits pool p (get_or values next v)) (refusal 31 (next + 1) 0) → Some x ≡ value_fault (first_other 1 (map (suits pool) (asked_by fields)) values)
-        asking_refused x e =
-            value_refused pool values next v asking_room p (asked_by (drop (i + 1) fields)) x e
-            ∙ ap value_fault (ap (λ ps. first_other (next + 1) (map (suits pool) ps) (drop next values)) (sym one) ∙ a.same)
-
-        pub asking_next : suits pool p (get_or values next v) ≡ true → Asking fields values pool (i + 1) (next + 1)
-        asking_next e = record {
-          even = omega (arith, a.even, ap length one);
-          same = value_suits pool values next v asking_room p (asked_by (drop (i + 1) fields)) e ∙ ap (λ ps. first_other (next + 1) (map (suits pool) ps) (drop next values)) (sym one) ∙ a.same;
-        }
-
-        -- where every value suits, so does the next
-        pub asking_suits : None ≡ first_other 1 (map (suits pool) (asked_by fields)) values → suits pool p (get_or values next v) ≡ true
-        asking_suits e = no_other (suits pool p (get_or values next v)) (next + 1) _ (sym (next_value pool values next v asking_room p (asked_by (drop (i + 1) fields))) ∙ ap (λ ps. first_other (next + 1) (map (suits pool) ps) (drop next values)) (sym one) ∙ a.same ∙ sym e)
-
--- the count of the values comes first
-module _ (pool : List ℕ) (ps qs : List (s.Value → Bool)) (is : ps ≡ qs) (values : List Value) where
-  counted_as : length (map (suits pool) qs) ≡ length ps
-  counted_as = length-map qs (suits pool) ∙ ap length (sym is)
-
-  pub miscounted : (n : ℕ) → n ≡ length ps → (n ≡ length values → ⊥) → Some (min n (length values) + 1) ≡ wrong_value (map (suits pool) qs) values
-  miscounted n e other =
-      let len : length (map (suits pool) qs) ≡ n = counted_as ∙ sym e in
-      sym (rw (len, ne_eqb n (length values) other))
-
-  pub counted : length ps ≡ length values → first_other 1 (map (suits pool) ps) values ≡ wrong_value (map (suits pool) qs) values
-  counted e = ap (λ ps. first_other 1 (map (suits pool) ps) values) is ∙ sym (rw (eq-eqb (length (map (suits pool) qs)) (length values) (counted_as ∙ e)))
+  pub refused_next : (ps : List (ℕ × (Asked × Value))) (n : ℕ) (p : ℕ × (Asked × Value)) → (n < length ps) × (p ≡ get_or ps n p) → (o : Option Refusal) → o ≡ refused_at p → option_or o (refused (drop (n + 1) ps)) ≡ refused (drop n ps)
+  refused_next ps n p at o e = ap (λ o. option_or o (refused (drop (n + 1) ps))) (e ∙ ap refused_at at.1) ∙ sym (at_drop_more refused ps n p at.0)

@@ -1,32 +1,34 @@
--- One field of an entry's row, as it is printed.
-use Rattle.std.specs.Prelude.{◌≡◌, ℕ, ◌+◌, ◌<◌, true, List, map, length, Some, None, Result, slice_index_or}
+-- The fields of an entry's row, as they are printed.
+use Rattle.std.specs.Prelude.{◌≡◌, ℕ, true, List, [], ◌∷◌, map, Some, None, Result}
 use Rattle.refusals.specs.Faults.{Fault}
 use Rattle.fields.specs.Field.{Working, Cell, num}
 use Rattle.fields.specs.Meaning.{field_of}
 use Rattle.fields.specs.declared.field.Field.{Field}
 use Rattle.records.specs.declared.entries.Value.{Value}
-use Rattle.records.specs.declared.entries.Value.TheVariants.{Number}
 use Rattle.records.specs.Cells.{Origin, of_book, entered, reckoned, origins, cells, write_cells}
 use Rattle.records.specs.Entries.{value_of, inside}
 use Rattle.records.specs.Worked.{reckoned_by}
 
--- what a field holds, where n is the place of the entry's next value
-abbrev pub cell_for : List ℕ → (Working → ℕ) → List Value → ℕ → Origin → Cell
-cell_for pool r vs n of_book = None
-cell_for pool r vs n (entered p) = Some (value_of pool (slice_index_or vs n (Number 0)))
-cell_for pool r vs n (reckoned a k) = Some (num (r k))
+-- what a field holds, where vs are the values that are left
+abbrev pub cell_for : List ℕ → (Working → ℕ) → List Value → Origin → Cell
+cell_for pool r vs of_book = None
+cell_for pool r [] (entered p) = None
+cell_for pool r (v ∷ vs) (entered p) = Some (value_of pool v)
+cell_for pool r vs (reckoned a k) = Some (num (r k))
 
--- the place of the value after that
-abbrev pub place_after : ℕ → Origin → ℕ
-place_after n of_book = n
-place_after n (entered p) = n + 1
-place_after n (reckoned a k) = n
+-- the values that are left after it
+abbrev pub rest_after : List Value → Origin → List Value
+rest_after vs of_book = vs
+rest_after [] (entered p) = []
+rest_after (v ∷ vs) (entered p) = vs
+rest_after vs (reckoned a k) = vs
 
--- the next value is there, if one is asked for
-abbrev pub Ready : List ℕ → List Value → ℕ → Origin → Type 0
-Ready pool vs n of_book = Unit {0}
-Ready pool vs n (entered p) = (n < length vs) × (inside pool (slice_index_or vs n (Number 0)) ≡ true)
-Ready pool vs n (reckoned a k) = Unit {0}
+-- the next value, if one is asked for, lies in the pool
+abbrev pub Ready : List ℕ → List Value → Origin → Type 0
+Ready pool vs of_book = Unit {0}
+Ready pool [] (entered p) = Unit {0}
+Ready pool (v ∷ vs) (entered p) = inside pool v ≡ true
+Ready pool vs (reckoned a k) = Unit {0}
 
 -- fields one after the other, with these values and worked numbers
 abbrev pub print_fields : List ℕ → (Working → ℕ) → List Field → List Value → Result (List ℕ) Fault

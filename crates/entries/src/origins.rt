@@ -1,7 +1,7 @@
 // Where the content of a field comes from.
 ghost use Rattle.std.specs.Prelude.{◌≡◌, length};
 ghost use Rattle.fields.specs.Meaning.{field_of};
-ghost use Rattle.entries.specs.Asked.{origin_of, asked_by};
+ghost use Rattle.entries.specs.Asked.{origin_of, origin_in, asked_in, asked_by};
 ghost use Rattle.records.specs.Cells.{origin};
 
 use fields::field::{Field, Sort, Working};
@@ -24,7 +24,8 @@ pub enum Origin {
 }
 
 pub fn origin_of(field: &Field) -> Origin
-    ensures { origin (field_of field.now) ≡ origin_of field.now.start result }
+    ensures meant { origin (field_of field.now) ≡ origin_of field.now.start result }
+    ensures exact { result ≡ origin_in field.now.sort }
 {
     match field.sort {
         Sort::Constant(_) | Sort::Blank => Origin::Book,
@@ -34,15 +35,19 @@ pub fn origin_of(field: &Field) -> Origin
     }
 }
 
+// What the field asks of an entry, if anything.
+pub(crate) fn asked_of(field: &Field) -> Option<Asked>
+    ensures { result ≡ asked_in field.now }
+{
+    match origin_of(field) {
+        Origin::Entered(asked) => Some(asked),
+        Origin::Book | Origin::Worked(_) => None,
+    }
+}
+
 // How many values an entry has for these fields.
 pub fn count_entered(fields: &[Field]) -> usize
     ensures { result ≡ length (asked_by fields.now) }
 {
-    let mut count = 0;
-    for field in fields {
-        if let Origin::Entered(_) = origin_of(field) {
-            count += 1;
-        }
-    }
-    count
+    fields.iter().filter_map(|field| asked_of(field)).count()
 }

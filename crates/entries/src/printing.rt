@@ -1,5 +1,6 @@
 // The row of an entry.
 ghost use Rattle.std.specs.Prelude.{◌≡◌, ◌^◌, ◌<◌, true, [], ◌∷◌, map, Some, None, Ok, MatchResult, OnOk};
+ghost use Rattle.std.specs.Slice.Iter.{iter_rest};
 ghost use Rattle.refusals.specs.Refusals.{of_field, refusal_in, of_entry};
 ghost use Rattle.refusals.specs.Faults.{in_row, first_some, fault_in};
 ghost use Rattle.fields.specs.Field.{write_field};
@@ -9,7 +10,7 @@ ghost use Rattle.layouts.specs.Lawful.{Covers};
 ghost use Rattle.entries.specs.Asked.{asked_by};
 ghost use Rattle.records.specs.Cells.{origin, wrong_value};
 ghost use Rattle.records.specs.Entries.{handed_of, value_of, meant, inside, suits, handed31, value_fault};
-ghost use Rattle.entries.specs.Printing.{cell_for, place_after, Ready, print_fields};
+ghost use Rattle.entries.specs.Printing.{cell_for, rest_after, Ready, print_fields};
 ghost use Rattle.records.specs.Row.{mark10, origins_of, print_row};
 ghost use Rattle.records.specs.Worked.{worked_of, reckoned_by};
 
@@ -19,6 +20,7 @@ use fields::field::{Content, Field};
 use layouts::book::Book;
 use records::{Entry, Value, Worked, find_marked};
 use refusals::{EntryFault, FieldFault};
+use std::slice::Iter;
 
 fn content_of<'b>(value: Value, pool: &'b [u8]) -> Content<'b>
     requires { inside pool.now value ≡ true }
@@ -30,26 +32,23 @@ fn content_of<'b>(value: Value, pool: &'b [u8]) -> Content<'b>
     }
 }
 
-// What a field of the entry's row holds, where `next` is the place of the entry's next value.
-fn content_for<'b>(field: &Field, entry: Entry<'_, 'b>, next: usize, worked: Worked) -> Content<'b>
-    requires { Ready entry.pool.now entry.values.now next (origin (field_of field.now)) }
-    ensures { cell_of result ≡ cell_for entry.entry.pool.now (worked_of worked) entry.entry.values.now next (origin (field_of field.now)) }
+// What a field of the entry's row holds, where `values` gives the entry's values that are left.
+fn next_content<'b>(
+    field: &Field,
+    values: &mut Iter<Value>,
+    pool: &'b [u8],
+    worked: Worked,
+) -> Content<'b>
+    requires { Ready pool.now (iter_rest values.old) (origin (field_of field.now)) }
+    ensures cell { cell_of result ≡ cell_for pool.now (worked_of worked) (iter_rest values.old) (origin (field_of field.now)) }
+    ensures rest { iter_rest values.new ≡ rest_after (iter_rest values.old) (origin (field_of field.now)) }
 {
     match origin_of(field) {
         Origin::Book => Content::Fixed,
-        Origin::Entered(_) => content_of(entry.values[next], entry.pool),
+        Origin::Entered(_) => values
+            .next()
+            .map_or(Content::Fixed, |value| content_of(*value, pool)),
         Origin::Worked(working) => Content::Number(worked.number(working)),
-    }
-}
-
-// The place of the value after that.
-fn place_after(field: &Field, next: usize) -> usize
-    requires { next < 2 ^ 63 }
-    ensures { result ≡ place_after next (origin (field_of field.now)) }
-{
-    match origin_of(field) {
-        Origin::Entered(_) => next + 1,
-        Origin::Book | Origin::Worked(_) => next,
     }
 }
 
@@ -66,11 +65,10 @@ fn print_fields(
     ensures refused { refusal_in of_field result ≡ in_row row_number (fault_in (print_fields entry.entry.pool.now (worked_of worked) fields.now entry.entry.values.now)) }
     ensures printed { OnOk result (print_fields entry.entry.pool.now (worked_of worked) fields.now entry.entry.values.now ≡ Ok row.new) }
 {
-    let mut next = 0;
+    let mut values = entry.values.iter();
     for field in fields {
-        let content = content_for(field, entry, next, worked);
+        let content = next_content(field, &mut values, entry.pool, worked);
         field.write(row_number, row, content)?;
-        next = place_after(field, next);
     }
     Ok(())
 }
@@ -84,8 +82,8 @@ pub fn print<B: Book>(
     row_number: usize,
     row: &mut [u8; 750],
 ) -> Result<(), EntryFault>
-    ensures refused { refusal_in of_entry result ≡ first_some (in_row row_number (mark10 B.Meant.meaning entry.entry.mark) ∷ (value_fault (handed31 B.Meant.meaning (handed_of entry.entry)) ∷ (in_row row_number (fault_in (print_row B.Meant.meaning (meant (handed_of entry.entry)) (reckoned_by (worked_of worked) (origins_of B.Meant.meaning entry.entry.mark)))) ∷ []))) }
-    ensures printed { MatchResult result (λ _. print_row B.Meant.meaning (meant (handed_of entry.entry)) (reckoned_by (worked_of worked) (origins_of B.Meant.meaning entry.entry.mark)) ≡ Ok row.new) (λ _. row.new ≡ row.old) }
+    ensures refused { refusal_in of_entry result ≡ first_some (in_row row_number (mark10 B.meaning entry.entry.mark) ∷ (value_fault (handed31 B.meaning (handed_of entry.entry)) ∷ (in_row row_number (fault_in (print_row B.meaning (meant (handed_of entry.entry)) (reckoned_by (worked_of worked) (origins_of B.meaning entry.entry.mark)))) ∷ []))) }
+    ensures printed { MatchResult result (λ _. print_row B.meaning (meant (handed_of entry.entry)) (reckoned_by (worked_of worked) (origins_of B.meaning entry.entry.mark)) ≡ Ok row.new) (λ _. row.new ≡ row.old) }
 {
     let kind = find_marked(book, row_number, entry.mark)?;
     check_values(book, entry)?;

@@ -1,13 +1,15 @@
 // One value of a row.
-ghost use Rattle.std.specs.Prelude.{◌≡◌, ◌-◌, ◌<◌, ◌≤◌, map, length, Some, Ok, Err, MatchResult, slice_index_or};
+ghost use Rattle.std.specs.Prelude.{◌≡◌, ◌-◌, ◌<◌, ◌≤◌, map, length, Some, Ok, Err, MatchResult, slice_get, slice_index_or, filter};
+ghost use Rattle.std.specs.Option.{is_some};
 ghost use Rattle.refusals.specs.Refusals.{refusal, of_value, of_take};
 ghost use Rattle.fields.specs.Meaning.{field_of};
 ghost use Rattle.layouts.specs.Layout.{no_field};
 ghost use Rattle.records.specs.Held.{cell_in};
 ghost use Rattle.records.specs.Row.{take_value};
+ghost use Rattle.entries.specs.Asked.{asked_in};
 ghost use Rattle.entries.specs.Taking.{entered_of, field_of_value, value_in, took, TakenAt, Holds};
 
-use crate::origins::{Origin, origin_of};
+use crate::origins::asked_of;
 use fields::field::{Content, Field};
 use layouts::book::Book;
 use records::{content_in, judge, number_in};
@@ -20,23 +22,29 @@ pub enum Taken<'a> {
     Text { position: usize, bytes: &'a [u8] },
 }
 
+// The field of an entry's value, by the value's place, from 0.
+fn entered_at(fields: &[Field], place: usize) -> Option<Field>
+    ensures { result ≡ slice_get (filter (λ f. is_some (asked_in f)) fields.now) place }
+{
+    fields
+        .iter()
+        .filter(|field| asked_of(field).is_some())
+        .nth(place)
+        .copied()
+}
+
 // The field of an entry's value, by the value's number, from 1.
 fn find_entered(fields: &[Field], number: usize) -> Result<Field, ValueFault>
     ensures { MatchResult result (λ field. (0 < number) × (number ≤ length (entered_of (map field_of fields.now))) × (field_of field ≡ slice_index_or (entered_of (map field_of fields.now)) (number - 1) no_field)) (λ e. (of_value e ≡ refusal 31 number 0) × (0 < number → length (entered_of (map field_of fields.now)) < number)) }
 {
-    let mut seen = 0;
-    for field in fields {
-        if let Origin::Entered(_) = origin_of(field) {
-            seen += 1;
-            if seen == number {
-                return Ok(*field);
-            }
-        }
-    }
-    Err(ValueFault { number })
+    number
+        .checked_sub(1)
+        .and_then(|place| entered_at(fields, place))
+        .ok_or(ValueFault { number })
 }
 
-// What an entered field of a good row holds. `whole` is the row too, but a part of it is not known to lie in `row`.
+// What an entered field of a good row holds. `whole` is the row too, but std's conversion to an array tells no address:
+// no part of it is known to lie in `row`.
 fn taken_from<'a>(field: &Field, row: &'a [u8], whole: &[u8; 750]) -> Taken<'a>
     requires same { whole.now ≡ row.now }
     requires held { Holds (cell_in (field_of field.now) row.now) }
@@ -55,12 +63,10 @@ fn taken_from<'a>(field: &Field, row: &'a [u8], whole: &[u8; 750]) -> Taken<'a>
 
 // Value `number`, from 1, of one row.
 pub fn take<'a, B: Book>(book: &B, row: &'a [u8], number: usize) -> Result<Taken<'a>, TakeFault>
-    ensures told { MatchResult result (λ taken. (take_value B.Meant.meaning row.now number ≡ Ok (value_in taken)) × TakenAt row.entry.ref_ptr (field_of_value B.Meant.meaning row.now number) taken) (λ e. take_value B.Meant.meaning row.now number ≡ Err (of_take e)) }
-    ensures answer { took result ≡ take_value B.Meant.meaning row.now number }
+    ensures told { MatchResult result (λ taken. (take_value B.meaning row.now number ≡ Ok (value_in taken)) × TakenAt row.entry.ref_ptr (field_of_value B.meaning row.now number) taken) (λ e. take_value B.meaning row.now number ≡ Err (of_take e)) }
+    ensures answer { took result ≡ take_value B.meaning row.now number }
 {
-    let Ok(whole) = <&[u8; 750]>::try_from(row) else {
-        return Err(TakeFault::Carrier(CarrierFault::BadForm(row.len().min(750))));
-    };
+    let whole = <&[u8; 750]>::try_from(row).map_err(|_| CarrierFault::BadForm(row.len().min(750)))?;
     let kind = judge(book, 0, whole)?;
     let field = find_entered(book.fields(kind), number)?;
     Ok(taken_from(&field, row, whole))

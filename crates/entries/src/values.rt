@@ -1,12 +1,12 @@
 // Whether the values of an entry are those that its kind asks for.
-ghost use Rattle.std.specs.Prelude.{◌≡◌, ℕ, map, length};
+ghost use Rattle.std.specs.Prelude.{◌≡◌, map};
 ghost use Rattle.refusals.specs.Refusals.{refusal, refusal_in, of_value};
 ghost use Rattle.refusals.specs.Faults.{unless};
 ghost use Rattle.entries.specs.Asked.{asks_for, asked_by};
 ghost use Rattle.records.specs.Cells.{first_other};
 ghost use Rattle.records.specs.Entries.{handed_of, suits, handed31, value_fault};
 
-use crate::origins::{Asked, Origin, count_entered, origin_of};
+use crate::origins::{Asked, asked_of, count_entered};
 use fields::field::Field;
 use layouts::book::Book;
 use layouts::kinds::Kind;
@@ -35,24 +35,23 @@ fn check_value(asked: Asked, number: usize, value: Value, pool: &[u8]) -> Result
     Ok(())
 }
 
-// The values one by one, as many as are asked for.
+// The values one by one, each with its number from 1.
 fn check_each(fields: &[Field], values: &[Value], pool: &[u8]) -> Result<(), ValueFault>
-    requires { length (asked_by fields.now) ≡ length values.now }
     ensures { refusal_in of_value result ≡ value_fault (first_other 1 (map (suits pool.now) (asked_by fields.now)) values.now) }
 {
-    let mut next = 0;
-    for field in fields {
-        if let Origin::Entered(asked) = origin_of(field) {
-            check_value(asked, next + 1, values[next], pool)?;
-            next += 1;
-        }
+    let asked_values = fields
+        .iter()
+        .filter_map(|field| asked_of(field))
+        .zip(values);
+    for (place, (asked, value)) in asked_values.enumerate() {
+        check_value(asked, place + 1, *value, pool)?;
     }
     Ok(())
 }
 
 // Too few or too many values are refused with the lesser count plus 1, else the first that does not suit.
 pub fn check_values<B: Book>(book: &B, entry: Entry) -> Result<(), ValueFault>
-    ensures { refusal_in of_value result ≡ value_fault (handed31 B.Meant.meaning (handed_of entry.entry)) }
+    ensures { refusal_in of_value result ≡ value_fault (handed31 B.meaning (handed_of entry.entry)) }
 {
     let fields = book.fields(Kind { mark: entry.mark });
     let asked = count_entered(fields);

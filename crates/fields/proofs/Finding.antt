@@ -1,10 +1,9 @@
 -- The first bad place of a list: the turns of the loop that looks for it, and what it tells of the bytes.
-use Rattle.std.proofs.Common.{◌≡◌, ℕ, zero, suc, ◌+◌, ◌<◌, ◌≤◌, Bool, true, false, cond, List, [], ◌∷◌, length, get_or, drop, Ok, sym, ◌∙◌, ⊎_elim, add-zero, arith}
-use Rattle.std.proofs.lemmas.List.{at_drop_more, at_drop_all}
-use Rattle.std.proofs.lemmas.Bool.{cases_Bool, ltb-false, le-ltb}
+use Rattle.std.proofs.Common.{◌≡◌, ℕ, zero, suc, ◌+◌, ◌<◌, ◌≤◌, Bool, true, false, cond, List, [], ◌∷◌, length, get_or, drop, Ok, sym, ◌∙◌, add-zero, arith}
+use Rattle.std.proofs.lemmas.Grind.{common_steps}
+use Rattle.std.proofs.lemmas.List.{at_drop_more}
 use Rattle.fields.specs.declared.flaws.Flaw.{Flaw}
-use Rattle.fields.specs.Places.{first_bad, some_bad, checked}
-use Rattle.fields.proofs.Results.{past}
+use Rattle.fields.specs.Places.{first_bad, checked}
 
 module _ (bad : ℕ → ℕ → Bool) where
   -- no place before i is bad
@@ -20,16 +19,9 @@ module _ (bad : ℕ → ℕ → Bool) where
   pub none_at : (bs : List ℕ) (i : ℕ) → i < length bs → bad i (get_or bs i 0) ≡ true → NoneBefore bs i → first_bad bad 0 bs ≡ i
   none_at bs i l t h = sym h ∙ rw t at (turn bs i l)
 
-  pub none_all : (bs : List ℕ) (i : ℕ) → i ≤ length bs → length bs ≤ i → NoneBefore bs i → first_bad bad 0 bs ≡ length bs
-  none_all bs i m l h = let e : first_bad bad i (drop i bs) ≡ i = at_drop_all (first_bad bad i) bs i l in omega (arith, h, e)
-
   -- where none is bad, the test fails at each place
   pub none_first : (b : ℕ) (bs : List ℕ) (k : ℕ) → first_bad bad k (b ∷ bs) ≡ k + length (b ∷ bs) → (bad k b ≡ false) × (first_bad bad (k + 1) bs ≡ (k + 1) + length bs)
-  none_first b bs k e =
-      ⊎_elim
-      (λ t. let z : k ≡ k + suc (length bs) = rw t at e in absurd (omega (arith, z)))
-      (λ f. let z : first_bad bad (k + 1) bs ≡ k + suc (length bs) = rw f at e in (f, omega (arith, z)))
-      (cases_Bool (bad k b))
+  none_first b bs k e = (grind (arith, common_steps), grind (arith, common_steps))
 
   from_none : (bs : List ℕ) (k : ℕ) → first_bad bad k bs ≡ k + length bs → (i : ℕ) → i < length bs → bad (k + i) (get_or bs i 0) ≡ false
   from_none [] k e i l = absurd (omega arith)
@@ -54,14 +46,8 @@ module _ (bad : ℕ → ℕ → Bool) where
 
   pub first_le_end : (bs : List ℕ) (k : ℕ) → first_bad bad k bs ≤ k + length bs
   first_le_end [] k = omega arith
-  first_le_end (b ∷ bs) k = let h = first_le_end bs (k + 1) in ⊎_elim (λ t. rw t (omega arith)) (λ f. rw f (omega arith)) (cases_Bool (bad k b))
+  first_le_end (b ∷ bs) k = grind (arith, common_steps, first_le_end bs (k + 1))
 
   -- what a check tells: it hands on what it was given, where none is bad
-  pub checked_ok : (flaw : ℕ → Flaw) (bs : List ℕ) → first_bad bad 0 bs ≡ length bs → checked flaw bad bs ≡ Ok bs
-  checked_ok flaw bs e = rw (le-ltb (first_bad bad 0 bs) (length bs) (omega (arith, e)))
-
   pub ok_checked : (flaw : ℕ → Flaw) (bs cs : List ℕ) → checked flaw bad bs ≡ Ok cs → (first_bad bad 0 bs ≡ length bs) × (cs ≡ bs)
-  ok_checked flaw bs cs h =
-      let p = past (some_bad bad bs) (flaw (first_bad bad 0 bs)) (Ok bs) cs h in
-      let e = p.1 in
-      (omega (arith, ltb-false (first_bad bad 0 bs) (length bs) p.0, first_le_end bs 0), cc)
+  ok_checked flaw bs cs h = (grind (arith, common_steps, first_le_end), grind (arith, common_steps))

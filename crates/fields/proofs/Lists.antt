@@ -1,27 +1,23 @@
--- The turns of the loops over a list of codes and a list of words.
-use Rattle.std.proofs.Common.{◌≡◌, ℕ, ◌+◌, ◌<◌, Bool, true, false, ◌||◌, eqb, List, map, length, get_or, drop, sym, Bor}
-use Rattle.std.proofs.lemmas.List.{at_drop_more}
+-- A look into a list of codes or of words, as the library answers it.
+use Rattle.std.proofs.Common.{◌≡◌, ℕ, eqb, nat_eq, List, [], ◌∷◌, Bor, map, refl, arith}
+use Rattle.std.specs.List.{list_any}
+use Rattle.std.proofs.lemmas.Bool.Decides.{nat_tests}
+use lib.Pointwise.{pointwise}
 use Rattle.fields.specs.Field.{any_of, same, one_of}
 
-module _ (cs : List ℕ) (i n : ℕ) (l : i < length cs) where
-  next_code : any_of (drop i cs) n ≡ (eqb n (get_or cs i 0) || any_of (drop (i + 1) cs) n)
-  next_code = at_drop_more (λ cs. any_of cs n) cs i 0 l
+same_either : (a b : ℕ) → eqb a b ≡ eqb b a
+same_either a b = grind (arith, nat_tests)
 
-  pub code_hit : eqb n (get_or cs i 0) ≡ true → true ≡ any_of (drop i cs) n
-  code_hit e = sym (rw e at next_code)
+pub any_code : (cs : List ℕ) (n : ℕ) → list_any (λ c. nat_eq c n) cs ≡ any_of cs n
+any_code [] n = refl
+any_code (c ∷ cs) n = rw (same_either c n, any_code cs n)
 
-  pub code_miss : eqb n (get_or cs i 0) ≡ false → any_of (drop (i + 1) cs) n ≡ any_of (drop i cs) n
-  code_miss e = sym (rw e at next_code)
+same_texts : (u t : List ℕ) → pointwise nat_eq u t ≡ same u t
+same_texts [] [] = refl
+same_texts [] (b ∷ t) = refl
+same_texts (a ∷ u) [] = refl
+same_texts (a ∷ u) (b ∷ t) = rw (same_texts u t)
 
-abbrev pub any_word : List (Bor (List ℕ)) → List ℕ → Bool
-any_word ws t = one_of (map (λ w. w.now) ws) t
-
-module _ (ws : List (Bor (List ℕ))) (i : ℕ) (d : Bor (List ℕ)) (t : List ℕ) (l : i < length ws) where
-  next_word : any_word (drop i ws) t ≡ (same (get_or ws i d).now t || any_word (drop (i + 1) ws) t)
-  next_word = at_drop_more (λ ws. any_word ws t) ws i d l
-
-  pub word_hit : true ≡ same (get_or ws i d).now t → true ≡ any_word (drop i ws) t
-  word_hit e = sym (rw (sym e) at next_word)
-
-  pub word_miss : false ≡ same (get_or ws i d).now t → any_word (drop (i + 1) ws) t ≡ any_word (drop i ws) t
-  word_miss e = sym (rw (sym e) at next_word)
+pub any_word : (ws : List (Bor (List ℕ))) (t : List ℕ) → list_any (λ w. pointwise nat_eq w.now t) ws ≡ one_of (map (λ w. w.now) ws) t
+any_word [] t = refl
+any_word (w ∷ ws) t = rw (same_texts w.now t, any_word ws t)

@@ -1,15 +1,16 @@
 -- Digits read as n exactly when n fits them and is printed as them.
-use Rattle.std.proofs.Common.{◌≡◌, ℕ, zero, suc, ◌+◌, ◌-◌, ◌*◌, ◌/◌, ◌%◌, ◌^◌, ◌<◌, ◌≤◌, false, ltb, leb, List, [], ◌∷◌, length, Ok, sym, refl, ap, ◌∙◌, subst, add_assoc, mod-lt, mod-eq_of_lt, mul_assoc, add-mul, arith}
+use Rattle.std.proofs.Common.{◌≡◌, ℕ, zero, suc, ◌+◌, ◌-◌, ◌*◌, ◌/◌, ◌%◌, ◌^◌, ◌<◌, ◌≤◌, false, ltb, List, [], ◌∷◌, length, Ok, sym, refl, ap, ◌∙◌, subst, add_assoc, mod-lt, mod-eq_of_lt, mul_assoc, add-mul, arith}
 use native.Mathlib.Nat.{pow-succ'}
 use lib.Arith.{digits_lt, digits_div, digits_mod, mod-mul}
 use Rattle.std.specs.List.{AllByRecursion}
-use Rattle.std.proofs.lemmas.Bool.{le-leb, and_from, and_parts, leb-true, not-false, not_from_true, lt-ltb, ltb-true}
-use Rattle.fields.specs.declared.flaws.Flaw.TheVariants.{Byte, Unfit}
+use Rattle.std.proofs.lemmas.Grind.{common_steps}
+use Rattle.std.proofs.lemmas.Bool.{lt-ltb, ltb-true}
+use Rattle.fields.specs.declared.flaws.Flaw.TheVariants.{Unfit}
 use Rattle.fields.specs.Places.{first_bad}
-use Rattle.fields.specs.Digits.{digit, no_digit, check_digits, read_number, write_number}
+use Rattle.fields.specs.Digits.{no_digit, read_number, write_number}
 use Rattle.numbers.specs.Digits.{value, printed}
-use Rattle.fields.proofs.Results.{Both, then_ok, passed}
-use Rattle.fields.proofs.Finding.{none_first, checked_ok, ok_checked}
+use Rattle.fields.proofs.Results.{Both, passed}
+use Rattle.fields.proofs.Finding.{none_first, first_le_end}
 
 ten : (k : ℕ) → zero < 10 ^ k
 ten zero = omega arith
@@ -22,7 +23,7 @@ abbrev IsDigits : List ℕ → Type 0
 IsDigits = AllByRecursion IsDigit
 
 pub is_digit : (k b : ℕ) → no_digit k b ≡ false → IsDigit b
-is_digit k b e = let p = and_parts (leb 48 b) (leb b 57) (not-false (digit b) e) in (leb-true 48 b p.0, leb-true b 57 p.1)
+is_digit k b e = (grind (arith, common_steps), grind (arith, common_steps))
 
 clean : (bs : List ℕ) (k : ℕ) → first_bad no_digit k bs ≡ k + length bs → IsDigits bs
 clean [] k e = tt
@@ -30,10 +31,7 @@ clean (b ∷ bs) k e = let p = none_first no_digit b bs k e in (is_digit k b p.0
 
 all_clean : (bs : List ℕ) (k : ℕ) → IsDigits bs → first_bad no_digit k bs ≡ k + length bs
 all_clean [] k h = omega arith
-all_clean (b ∷ bs) k h =
-    let f : no_digit k b ≡ false = not_from_true (digit b) (and_from (leb 48 b) (leb b 57) (le-leb 48 b h.0.0) (le-leb b 57 h.0.1)) in
-    let rest = all_clean bs (k + 1) h.1 in
-    rw f (omega (arith, rest))
+all_clean (b ∷ bs) k h = grind (arith, common_steps, all_clean bs (k + 1) h.1)
 
 pub length-printed : (w n : ℕ) → length (printed w n) ≡ w
 length-printed zero n = refl
@@ -71,15 +69,12 @@ printed_after (b ∷ bs) k h =
     rw (e, q, m, back) (ap (λ l. b ∷ l) (printed_after bs (k * 10 + d) h.1))
 
 read_ok : (bs : List ℕ) → IsDigits bs → read_number bs ≡ Ok (value bs)
-read_ok bs h = let e = checked_ok no_digit Byte bs (omega (arith, all_clean bs 0 h)) in rw e
+read_ok bs h = let e = all_clean bs 0 h in grind (arith, common_steps)
 
 ok_read : (bs : List ℕ) (n : ℕ) → read_number bs ≡ Ok n → IsDigits bs × (n ≡ value bs)
 ok_read bs n ok =
-    let p = then_ok (check_digits bs) _ n ok in
-    let q = ok_checked no_digit Byte bs p.0 p.1 in
-    let is = p.2 in
-    let same : value p.0 ≡ n = cc in
-    (clean bs 0 (omega (arith, q.0)), sym same ∙ ap value q.1)
+    let none : first_bad no_digit 0 bs ≡ 0 + length bs = grind (arith, common_steps, first_le_end no_digit bs 0) in
+    (clean bs 0 none, grind (arith, common_steps))
 
 pub number_law : (bs : List ℕ) (n : ℕ) → Both (read_number bs ≡ Ok n) (write_number (length bs) n ≡ Ok bs)
 number_law bs n = (

@@ -1,7 +1,7 @@
 -- The turns of the loop that reads a number.
-use Rattle.std.proofs.Common.{◌≡◌, ℕ, suc, ◌+◌, ◌-◌, ◌*◌, ◌^◌, ◌<◌, ◌≤◌, List, [], ◌∷◌, length, get_or, drop, Ok, sym, mul_assoc, add-mul, add-one, arith}
+use Rattle.std.proofs.Common.{◌≡◌, ℕ, suc, ◌+◌, ◌-◌, ◌*◌, ◌^◌, ◌<◌, ◌≤◌, List, ◌∷◌, length, get_or, drop, Ok, sym, mul_assoc, add-mul, add-one, arith}
 use native.Mathlib.Nat.{pow-le-pow_right, pow-succ'}
-use Rattle.std.proofs.lemmas.List.{drop_more, drop_all}
+use Rattle.std.proofs.lemmas.List.{drop_more}
 use Rattle.fields.specs.declared.flaws.Flaw.TheVariants.{Byte}
 use Rattle.fields.specs.Digits.{no_digit, check_digits}
 use Rattle.numbers.specs.Digits.{value}
@@ -16,9 +16,6 @@ pub record Sofar (bs : List ℕ) (i sum : ℕ) : Type 0 where
 pub digit_at : (bs : List ℕ) → check_digits bs ≡ Ok bs → (i : ℕ) → i < length bs → (48 ≤ get_or bs i 0) × (get_or bs i 0 ≤ 57)
 digit_at bs ok i l = is_digit i (get_or bs i 0) (none_in no_digit bs (ok_checked no_digit Byte bs bs ok).0 i l)
 
-pub start : (bs : List ℕ) → Sofar bs 0 0
-start bs = record { total = omega arith; small = omega arith }
-
 pub more : (bs : List ℕ) (i sum : ℕ) → check_digits bs ≡ Ok bs → i < length bs → Sofar bs i sum → Sofar bs (i + 1) (sum * 10 + (get_or bs i 0 - 48))
 more bs i sum ok l s =
     let d = get_or bs i 0 in
@@ -31,12 +28,6 @@ more bs i sum ok l s =
     let f = add-mul (sum * 10) (d - 48) p in
     let g : 10 ^ (i + 1) ≡ 10 * 10 ^ i = rw (add-one, pow-succ') in
     record { total = omega (arith, t, e, f); small = omega (arith, g, s.small, is.0, is.1) }
-
-pub done : (bs : List ℕ) (i sum : ℕ) → length bs ≤ i → Sofar bs i sum → sum ≡ value bs
-done bs i sum l s =
-    let none : drop i bs ≡ [] = drop_all i bs l in
-    let t : sum * 10 ^ 0 + 0 ≡ value bs = rw none at s.total in
-    omega (arith, t)
 
 -- one digit more fits 64 bits
 pub room : (i sum d : ℕ) → i < 18 → sum < 10 ^ i → d < 10 → sum * 10 + d < 2 ^ 64

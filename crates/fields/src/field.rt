@@ -40,7 +40,7 @@ pub struct Field {
 }
 
 // What a field holds: constants and blanks no value, texts, words and long digits their bytes, the others a number.
-#[derive(Clone, Copy)]
+#[derive(Clone, Copy, PartialEq, Eq, Debug)]
 pub enum Content<'a> {
     Fixed,
     Number(u64),

@@ -18,13 +18,13 @@ fn is_wide(sort: Sort, width: usize) -> bool
     match sort {
         Sort::Constant(content) => content.len() <= width,
         Sort::Blank | Sort::Text | Sort::Word(_) => true,
-        Sort::Number | Sort::Code(_) => 1 <= width && width <= 18,
+        Sort::Number | Sort::Code(_) => matches!(width, 1..=18),
         Sort::Date => width == 8,
         Sort::Amount => width == 17,
         Sort::LongDigits => width == 20,
         Sort::Worked(Working::RowNumber | Working::OwnerNumber) => width == 6,
         Sort::Worked(Working::Total) => width == 17,
-        Sort::Worked(Working::Count) => 6 <= width && width <= 18,
+        Sort::Worked(Working::Count) => matches!(width, 6..=18),
     }
 }
 
@@ -33,9 +33,8 @@ impl Field {
     pub fn fits(self) -> bool
         ensures { result ≡ fits (field_of self) }
     {
-        1 <= self.start
-            && self.width <= 750
-            && self.start <= 751 - self.width
+        self.width <= 750
+            && (1..=751 - self.width).contains(&self.start)
             && is_wide(self.sort, self.width)
     }
 
@@ -74,10 +73,7 @@ impl Field {
             return Err(self.fault(row_number, Flaw::Unfit));
         }
         let from = self.start - 1;
-        match read_part(self, &row[from..from + self.width]) {
-            Ok(content) => Ok(content),
-            Err(flaw) => Err(self.fault(row_number, flaw)),
-        }
+        read_part(self, &row[from..from + self.width]).map_err(|flaw| self.fault(row_number, flaw))
     }
 
     // Writes a content into the field's own positions. A refused write leaves the row as it was.
@@ -94,9 +90,8 @@ impl Field {
             return Err(self.fault(row_number, Flaw::Unfit));
         }
         let from = self.start - 1;
-        match write_part(self, &mut row[from..from + self.width], content) {
-            Ok(()) => Ok(()),
-            Err(flaw) => Err(self.fault(row_number, flaw)),
-        }
+        write_part(self, &mut row[from..from + self.width], content).map_err(|flaw| self.fault(
+            row_number, flaw,
+        ))
     }
 }

@@ -10,5 +10,3 @@ pub mod laws;
 mod parts;
 mod texts;
 mod values;
-
-pub use values::is_same;

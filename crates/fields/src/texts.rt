@@ -10,11 +10,10 @@ fn trim(field: &[u8]) -> &[u8]
     ensures bytes { result.now ≡ trimmed field.now }
     ensures place { result.ref_ptr ≡ field.entry.ref_ptr }
 {
-    let mut n = field.len();
-    while n > 0 && field[n - 1] == b' ' {
-        n -= 1;
+    match field.iter().rposition(|byte| *byte != b' ') {
+        Some(last) => &field[..=last],
+        None => &field[..0],
     }
-    &field[0..n]
 }
 
 pub fn read_text(field: &[u8]) -> Result<&[u8], Flaw>

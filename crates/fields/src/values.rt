@@ -1,6 +1,6 @@
 // Whether a content may stand in its field: it is filled where it must be, and its list or the calendar has it.
 ghost use Rattle.std.specs.Prelude.{◌≡◌, map, Ok, Err, MatchResult};
-ghost use Rattle.fields.specs.Field.{any_of, one_of, same, filled, listed, gate, family};
+ghost use Rattle.fields.specs.Field.{any_of, one_of, filled, listed, gate, family};
 ghost use Rattle.fields.specs.Meaning.{sort_of, cell_of};
 
 use crate::bytes::has_nonzero;
@@ -11,30 +11,13 @@ use numbers::dates::is_date;
 fn has_code(codes: &[u64], number: u64) -> bool
     ensures { result ≡ any_of codes.now number }
 {
-    for code in codes {
-        if number == *code {
-            return true;
-        }
-    }
-    false
-}
-
-// Whether two texts have the same bytes.
-pub fn is_same(word: &[u8], text: &[u8]) -> bool
-    ensures { result ≡ same word.now text.now }
-{
-    word == text
+    codes.contains(&number)
 }
 
 fn has_word(words: &[&[u8]], text: &[u8]) -> bool
     ensures { result ≡ one_of (map (λ w. w.now) words.now) text.now }
 {
-    for word in words {
-        if is_same(word, text) {
-            return true;
-        }
-    }
-    false
+    words.contains(&text)
 }
 
 impl Sort {
@@ -43,7 +26,7 @@ impl Sort {
         ensures { result ≡ filled (family (sort_of self)) (cell_of content.entry) }
     {
         match (self, content) {
-            (Sort::Text | Sort::Word(_), Content::Text(text)) => text.len() > 0,
+            (Sort::Text | Sort::Word(_), Content::Text(text)) => !text.is_empty(),
             (Sort::LongDigits, Content::Text(digits)) => has_nonzero(digits),
             (Sort::Number | Sort::Code(_) | Sort::Date | Sort::Amount, Content::Number(number)) =>
                 number > 0,
@@ -67,15 +50,12 @@ fn is_listed(sort: Sort, content: Content) -> bool
 pub fn check_value(sort: Sort, required: bool, content: Content) -> Result<(), Flaw>
     ensures { MatchResult result (λ _. gate (sort_of sort) required (cell_of content.entry) ≡ Ok (cell_of content.entry)) (λ e. gate (sort_of sort) required (cell_of content.entry) ≡ Err e) }
 {
-    if sort.is_filled(content) {
-        if is_listed(sort, content) {
-            Ok(())
-        } else {
-            Err(Flaw::Unfit)
-        }
-    } else if required {
-        Err(Flaw::Empty)
-    } else {
-        Ok(())
+    let filled = sort.is_filled(content);
+    if required && !filled {
+        return Err(Flaw::Empty);
     }
+    if filled && !is_listed(sort, content) {
+        return Err(Flaw::Unfit);
+    }
+    Ok(())
 }

@@ -1,6 +1,6 @@
 // Each case of the tables, in a row whose other bytes must stay as they are.
-use crate::cases::{Gives, READS, Read, WRITES, Write};
-use fields::field::{Content, Field};
+use crate::cases::{READS, Read, Refused, WRITES, Write};
+use fields::field::Field;
 use numbers::cents::Cents;
 use refusals::{FieldFault, Layer, Refusal};
 use std::process::Abort;
@@ -12,10 +12,23 @@ const START: usize = 101;
 
 const OTHER: u8 = b'#';
 
-fn check_refused(rt: &impl Abort, fault: FieldFault, gives: Gives) -> Result<(), Fail> {
-    let Gives::Refused(number, offset) = gives else {
-        return Err(Fail::new("refused"));
+// The row that holds these bytes from the start on, and is otherwise untouched.
+fn row_with(rt: &impl Abort, bytes: &[u8]) -> [u8; 750] {
+    assert!(rt; bytes.len() <= 600);
+    let mut row = [OTHER; 750];
+    row[START - 1..START - 1 + bytes.len()].copy_from_slice(bytes);
+    row
+}
+
+fn check_refused(
+    rt: &impl Abort,
+    answer: Result<(), FieldFault>,
+    refused: Refused,
+) -> Result<(), Fail> {
+    let Err(fault) = answer else {
+        return Err(Fail::new("not refused"));
     };
+    let Refused(number, offset) = refused;
     assert!(rt; offset < 750);
     assert_eq!(rt;
         fault.refusal(),
@@ -29,27 +42,6 @@ fn check_refused(rt: &impl Abort, fault: FieldFault, gives: Gives) -> Result<(),
     Ok(())
 }
 
-// The row holds these bytes from the start on, and nothing else is changed.
-fn check_row(rt: &impl Abort, row: &[u8; 750], bytes: &[u8]) -> Result<(), Fail> {
-    for i in 0..750 {
-        if i < START - 1 || i - (START - 1) >= bytes.len() {
-            assert_eq!(rt; row[i], OTHER);
-        } else {
-            assert_eq!(rt; row[i], bytes[i - (START - 1)]);
-        }
-    }
-    Ok(())
-}
-
-fn is_same(a: Content, b: Content) -> bool {
-    match (a, b) {
-        (Content::Fixed, Content::Fixed) => true,
-        (Content::Number(x), Content::Number(y)) => x == y,
-        (Content::Text(x), Content::Text(y)) => x == y,
-        _ => false,
-    }
-}
-
 fn run_write(rt: &impl Abort, case: &Write) -> Result<(), Fail> {
     let Write(sort, required, width, content, gives) = *case;
     let field = Field {
@@ -59,42 +51,37 @@ fn run_write(rt: &impl Abort, case: &Write) -> Result<(), Fail> {
         required,
     };
     let mut row = [OTHER; 750];
-    match field.write(ROW, &mut row, content) {
-        Ok(()) => {
-            let Gives::Bytes(bytes) = gives else {
-                return Err(Fail::new("written"));
-            };
+    let answer = field.write(ROW, &mut row, content);
+    match gives {
+        Ok(bytes) => {
+            assert!(rt; answer.is_ok());
             assert_eq!(rt; bytes.len(), width);
-            check_row(rt, &row, bytes)
+            assert!(rt; row == row_with(rt, bytes));
+            Ok(())
         }
-        Err(fault) => {
-            check_row(rt, &row, b"")?;
-            check_refused(rt, fault, gives)
+        Err(refused) => {
+            assert!(rt; row == [OTHER; 750]);
+            check_refused(rt, answer, refused)
         }
     }
 }
 
 fn run_read(rt: &impl Abort, case: &Read) -> Result<(), Fail> {
     let Read(sort, required, bytes, gives) = *case;
-    let width = bytes.len();
-    assert!(rt; width <= 600);
     let field = Field {
         start: START,
-        width,
+        width: bytes.len(),
         sort,
         required,
     };
-    let mut row = [OTHER; 750];
-    row[START - 1..START - 1 + width].copy_from_slice(bytes);
-    match field.read(ROW, &row) {
-        Ok(content) => {
-            let Gives::Held(held) = gives else {
-                return Err(Fail::new("read"));
-            };
-            assert!(rt; is_same(content, held));
+    let row = row_with(rt, bytes);
+    let answer = field.read(ROW, &row);
+    match gives {
+        Ok(held) => {
+            assert!(rt; answer == Ok(held));
             Ok(())
         }
-        Err(fault) => check_refused(rt, fault, gives),
+        Err(refused) => check_refused(rt, answer.map(|_| ()), refused),
     }
 }
 

@@ -1,21 +1,25 @@
 -- Checks one after the other, and rows one after the other.
-use Rattle.std.proofs.Common.{◌≡◌, ℕ, ◌+◌, ◌<◌, ◌≤◌, Bool, true, List, [], ◌∷◌, ◌++◌, map, length, get_or, take, drop, Some, None, Err, Option, sym, refl, ap, ◌∙◌}
-use Rattle.std.proofs.lemmas.List.{take_more, drop_more, drop_all}
+use Rattle.std.proofs.Common.{◌≡◌, ℕ, ◌+◌, ◌-◌, ◌<◌, ◌≤◌, Bool, true, List, [], ◌∷◌, ◌++◌, map, length, get_or, take, drop, Some, None, Ok, Err, Option, Result, sym, refl, ap, ◌∙◌, subst, arith}
+use Rattle.std.proofs.lemmas.List.{map_more, drop_more, drop_all}
+use Rattle.refusals.specs.declared.carrier.CarrierFault.{CarrierFault}
 use Rattle.refusals.specs.declared.table.Refusal.{Refusal}
 use Rattle.refusals.specs.Faults.{Fault, in_row, first_some, and_then, answer}
+use Rattle.rows.specs.Rows.{Copied}
 use Rattle.fields.specs.Field.{Field, Working}
 use Rattle.layouts.specs.Layout.{Layout}
 use Rattle.layouts.specs.Lawful.{Lawful}
 use Rattle.records.specs.declared.entries.Worked.{Worked}
 use Rattle.records.specs.Cells.{origins}
 use Rattle.records.specs.Held.{digits_held}
-use Rattle.records.specs.Row.{Entry, fields_of, origins_of, mark_of, entry_of, digits_of}
+use Rattle.records.specs.Row.{Entry, fields_of, origins_of, entry_of, digits_of}
 use Rattle.records.specs.Worked.{worked_of}
 use Rattle.records.proofs.Options.{some_none}
 use Rattle.legality.specs.Before.{reckon}
-use Rattle.legality.specs.Checks.{first_wrong, wrong, row_fault}
-use Rattle.legality.specs.File.{checked_after}
-use Rattle.standings.specs.Standing.{Good}
+use Rattle.legality.specs.Checks.{first_wrong, wrong, work_checks, row_fault}
+use Rattle.legality.specs.File.{Accepted, checked_after, checked}
+use Rattle.standings.specs.declared.next.NextRow.{NextRow}
+use Rattle.standings.specs.declared.progress.Progress.{Progress}
+use Rattle.standings.specs.Standing.{Stands, IsNext, entry_of_next, with_next}
 use Rattle.standings.proofs.Holding.{digits_held_lem}
 use Rattle.standings.proofs.Wrong.{same_wrong}
 
@@ -46,12 +50,22 @@ skip_all n x (None ∷ xs) ys p e = skip_all n x xs ys p e
 skip_all n x (Some f ∷ xs) ys p e = some_none (sym p)
 
 -- the worked fields of a good row, where the numbers that are looked at are those that the entries before give
-pub wrong_held : (l : Layout) → Lawful l → (es : List Entry) (row : List ℕ) → Good l row → (m : ℕ) → m ≡ mark_of row → (fs : List Field) → fs ≡ fields_of l m → (j : ℕ) (looked : Working → Bool) (w : Worked) → ((k : Working) → looked k ≡ true → worked_of w k ≡ reckon l es (entry_of l row) k) → first_wrong j looked (worked_of w) (origins fs) (digits_held fs row) ≡ wrong j looked l es row
-wrong_held l law es row good m at fs is j looked w right =
-    same_wrong j looked (worked_of w) (reckon l es (entry_of l row)) right (origins fs) (digits_held fs row)
-    ∙ ap (λ fs. first_wrong j looked (reckon l es (entry_of l row)) (origins fs) (digits_held fs row)) is
-    ∙ ap (first_wrong j looked (reckon l es (entry_of l row)) (origins_of l m)) (digits_held_lem l law row good m at)
-    ∙ ap (λ m. first_wrong j looked (reckon l es (entry_of l row)) (origins_of l m) (digits_of l row)) at
+pub wrong_held : (l : Layout) → Lawful l → (es : List Entry) (next : NextRow) → IsNext l es next → (fs : List Field) → fs ≡ fields_of l next.kind.mark → (j : ℕ) (looked : Working → Bool) (w : Worked) → ((k : Working) → looked k ≡ true → worked_of w k ≡ reckon l es (entry_of_next l next) k) → first_wrong j looked (worked_of w) (origins fs) (digits_held fs next.row.now) ≡ wrong j looked l es next.row.now
+wrong_held l law es next here fs is j looked w right =
+    let row = next.row.now in
+    let before = reckon l es (entry_of_next l next) in
+    same_wrong j looked (worked_of w) before right (origins fs) (digits_held fs row)
+    ∙ ap (λ fs. first_wrong j looked before (origins fs) (digits_held fs row)) is
+    ∙ ap (first_wrong j looked before (origins_of l next.kind.mark)) (digits_held_lem l law row here.good next.kind.mark here.marked)
+    ∙ ap (λ m. first_wrong j looked before (origins_of l m) (digits_of l row)) here.marked
+
+-- what is found of the next row, in the words of the bytes that were read
+module _ (l : Layout) (es : List Entry) (row : List ℕ) (next : NextRow) (is : IsNext l es next) (same : next.row.now ≡ row) where
+  pub worked_at : (x : Option Refusal) → x ≡ in_row next.number (first_some (work_checks l es next.row.now)) → x ≡ in_row (length es + 1) (first_some (work_checks l es row))
+  worked_at x e = e ∙ ap (λ n. in_row n (first_some (work_checks l es next.row.now))) is.number ∙ ap (λ row. in_row (length es + 1) (first_some (work_checks l es row))) same
+
+  pub stands_at : (p : Progress) → Stands l p (with_next l es next) → Stands l p (es ++ entry_of l row ∷ [])
+  stands_at p s = subst (λ row. Stands l p (es ++ entry_of l row ∷ [])) same s
 
 -- one row of the check
 passes : (l : Layout) (es : List Entry) (row : List ℕ) (rows : List (List ℕ)) (o : Option Refusal) → o ≡ None → and_then (answer o (entry_of l row)) (λ e. checked_after l (es ++ e ∷ []) rows) ≡ checked_after l (es ++ entry_of l row ∷ []) rows
@@ -62,30 +76,53 @@ fails : (l : Layout) (es : List Entry) (row : List ℕ) (rows : List (List ℕ))
 fails l es row rows None x h = some_none (sym h)
 fails l es row rows (Some f) x h = let is : f ≡ x = cc in ap Err is
 
-map_push : (f : List ℕ → Entry) (xs : List (List ℕ)) (x : List ℕ) → map f (xs ++ x ∷ []) ≡ map f xs ++ f x ∷ []
-map_push f [] x = refl
-map_push f (y ∷ ys) x = ap (λ zs. f y ∷ zs) (map_push f ys x)
-
 -- the entries of the first i rows
 abbrev pub entries_to : Layout → List (List ℕ) → ℕ → List Entry
 entries_to l rows i = map (entry_of l) (take i rows)
 
 module _ (l : Layout) (rows : List (List ℕ)) (i : ℕ) (less : i < length rows) (row : List ℕ) (is : row ≡ get_or rows i []) where
-  pub entries_more : entries_to l rows (i + 1) ≡ entries_to l rows i ++ entry_of l row ∷ []
-  entries_more = ap (map (entry_of l)) (take_more rows i [] less) ∙ map_push (entry_of l) (take i rows) (get_or rows i []) ∙ ap (λ x. entries_to l rows i ++ entry_of l x ∷ []) (sym is)
+  entries_more : entries_to l rows (i + 1) ≡ entries_to l rows i ++ entry_of l row ∷ []
+  entries_more = map_more (entry_of l) rows i [] less ∙ ap (λ x. entries_to l rows i ++ entry_of l x ∷ []) (sym is)
 
   opens : checked_after l (entries_to l rows i) (drop i rows) ≡ checked_after l (entries_to l rows i) (row ∷ drop (i + 1) rows)
   opens = ap (checked_after l (entries_to l rows i)) (drop_more rows i [] less ∙ ap (λ x. x ∷ drop (i + 1) rows) (sym is))
 
-  pub checked_more : row_fault l (entries_to l rows i) row ≡ None → checked_after l (entries_to l rows (i + 1)) (drop (i + 1) rows) ≡ checked_after l (entries_to l rows i) (drop i rows)
+  checked_more : row_fault l (entries_to l rows i) row ≡ None → checked_after l (entries_to l rows (i + 1)) (drop (i + 1) rows) ≡ checked_after l (entries_to l rows i) (drop i rows)
   checked_more h =
       ap (λ es. checked_after l es (drop (i + 1) rows)) entries_more
       ∙ sym (passes l (entries_to l rows i) row (drop (i + 1) rows) (row_fault l (entries_to l rows i) row) h)
       ∙ sym opens
 
-  pub checked_stops : (x : Refusal) → row_fault l (entries_to l rows i) row ≡ Some x → checked_after l (entries_to l rows i) (drop i rows) ≡ Err x
+  checked_stops : (x : Refusal) → row_fault l (entries_to l rows i) row ≡ Some x → checked_after l (entries_to l rows i) (drop i rows) ≡ Err x
   checked_stops x h = opens ∙ fails l (entries_to l rows i) row (drop (i + 1) rows) (row_fault l (entries_to l rows i) row) x h
 
+-- the first i rows are taken
+pub record TakenTo (l : Layout) (rows : List (List ℕ)) (i : ℕ) (p : Progress) : Type 0 where
+  pub stands : Stands l p (entries_to l rows i)
+  pub rest : checked_after l (entries_to l rows i) (drop i rows) ≡ checked l rows
+
+-- row n is copied after those before it
+module _ (l : Layout) (rows : List (List ℕ)) (n : ℕ) (before row : List ℕ) (r : Result (Unit {0}) CarrierFault) (u : Unit {0}) (ok : r ≡ Ok u) (was : Copied rows n before row r) (p : Progress) (taken : TakenTo l rows (n - 1) p) where
+  copied : Copied rows n before row (Ok u)
+  copied = subst (Copied rows n before row) ok was
+
+  less : n - 1 < length rows
+  less = omega (arith, copied.0, copied.1)
+
+  pub taken_more : (q : Progress) → row_fault l (entries_to l rows (n - 1)) row ≡ None → Stands l q (entries_to l rows (n - 1) ++ entry_of l row ∷ []) → TakenTo l rows n q
+  taken_more q passes stands =
+      let z : n - 1 + 1 ≡ n = omega (arith, copied.0) in
+      subst (λ i. TakenTo l rows i q) z
+      (record {
+        stands = subst (Stands l q) (sym (entries_more l rows (n - 1) less row copied.2)) stands;
+        rest = checked_more l rows (n - 1) less row copied.2 passes ∙ taken.rest;
+      })
+
+  pub taken_stops : (x : Refusal) → row_fault l (entries_to l rows (n - 1)) row ≡ Some x → Err x ≡ checked l rows
+  taken_stops x h = sym (checked_stops l rows (n - 1) less row copied.2 x h) ∙ taken.rest
+
 -- after the last row
-pub checked_all : (l : Layout) (rows : List (List ℕ)) (i : ℕ) → length rows ≤ i → checked_after l (entries_to l rows i) (drop i rows) ≡ checked_after l (entries_to l rows i) []
-checked_all l rows i h = ap (checked_after l (entries_to l rows i)) (drop_all i rows h)
+pub taken_all : (l : Layout) (rows : List (List ℕ)) (i : ℕ) (p q : Progress) → q ≡ p → length rows ≤ i → TakenTo l rows i p → (r : Result Accepted Refusal) → ((es : List Entry) → Stands l q es → r ≡ checked_after l es []) → r ≡ checked l rows
+taken_all l rows i p q is end taken r finished =
+    let es = entries_to l rows i in
+    finished es (subst (λ p. Stands l p es) (sym is) taken.stands) ∙ sym (ap (checked_after l es) (drop_all i rows end)) ∙ taken.rest

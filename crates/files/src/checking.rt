@@ -3,18 +3,18 @@ ghost use Rattle.std.specs.Prelude.{◌≡◌, ℕ, ◌+◌, List, [], ◌∷◌
 ghost use Rattle.refusals.specs.Refusals.{refusal_in, of_file};
 ghost use Rattle.refusals.specs.Faults.{in_row, first_some};
 ghost use Rattle.records.specs.Row.{Entry, entry_of};
-ghost use Rattle.legality.specs.Before.{sum_of, rows_of};
+ghost use Rattle.legality.specs.Before.{rows_of};
 ghost use Rattle.legality.specs.Checks.{is_number, is_total, is_count, wrong, read_checks, work_checks, row_fault};
 ghost use Rattle.legality.specs.File.{Legal, accepted, checked_after, checked, FileLaw};
-ghost use Rattle.standings.specs.Standing.{Stands, Next};
+ghost use Rattle.standings.specs.Standing.{Stands, IsNext, IsSumWith};
 ghost use Rattle.files.specs.Told.{accepted_of, told, OneLegal};
 
 use layouts::book::Book;
-use layouts::kinds::Kind;
 use numbers::cents::Cents;
 use records::{find_kind, judge};
 use refusals::FileFault;
 use rows::Source;
+use standings::next::NextRow;
 use standings::progress::Progress;
 use standings::worked::{Look, check_worked};
 
@@ -25,80 +25,67 @@ pub struct Accepted {
     pub sum: Cents,
 }
 
-// The number and the kind of the next row, once it is read: its number, its mark, its place and its own fields are good.
-fn read_next<B: Book>(
+// The next row, once it is read: its number, its mark, its place and its own fields are good.
+fn read_next<'a, B: Book>(
     progress: &Progress,
     book: &B,
-    row: &[u8; 750],
-) -> Result<(usize, Kind), FileFault>
-    ensures refused { (es : List Entry) → Stands B.Meant.meaning progress.now es → refusal_in of_file result ≡ in_row (length es + 1) (first_some (read_checks B.Meant.meaning es row.now)) }
-    ensures found { (es : List Entry) → Stands B.Meant.meaning progress.now es → IfOk result (λ t. Next B.Meant.meaning es t.0 t.1 row.now) }
+    row: &'a [u8; 750],
+) -> Result<NextRow<'a>, FileFault>
+    ensures refused { (es : List Entry) → Stands B.meaning progress.now es → refusal_in of_file result ≡ in_row (length es + 1) (first_some (read_checks B.meaning es row.now)) }
+    ensures found { (es : List Entry) → Stands B.meaning progress.now es → IfOk result (IsNext B.meaning es) }
+    ensures row { IfOk result (λ next. next.row.now ≡ row.now) }
 {
     let number = progress.next_number()?;
     let kind = find_kind(book, number, row)?;
     progress.place(book, number, kind)?;
     judge(book, number, row)?;
-    Ok((number, kind))
+    Ok(NextRow { number, kind, row })
 }
 
-fn check_numbers<B: Book>(
-    progress: &Progress,
-    book: &B,
-    row_number: usize,
-    kind: Kind,
-    row: &[u8; 750],
-) -> Result<(), FileFault>
-    ensures { (es : List Entry) → Stands B.Meant.meaning progress.now es → Next B.Meant.meaning es row_number kind row.now → refusal_in of_file result ≡ in_row row_number (wrong 23 is_number B.Meant.meaning es row.now) }
+fn check_numbers<B: Book>(progress: &Progress, book: &B, next: NextRow) -> Result<(), FileFault>
+    ensures { (es : List Entry) → Stands B.meaning progress.now es → IsNext B.meaning es next.entry → refusal_in of_file result ≡ in_row next.entry.number (wrong 23 is_number B.meaning es next.entry.row.now) }
 {
     // The sum is not looked at yet.
-    let worked = progress.worked(book, row_number, kind, Cents::zero());
-    check_worked(book.fields(kind), Look::Numbers, worked, row_number, row)
+    let worked = progress.worked(book, next.number, next.kind, Cents::zero());
+    check_worked(book.fields(next.kind), Look::Numbers, worked, next)
 }
 
 fn check_totals<B: Book>(
     progress: &Progress,
     book: &B,
-    row_number: usize,
-    kind: Kind,
-    row: &[u8; 750],
+    next: NextRow,
     sum: Cents,
 ) -> Result<(), FileFault>
-    ensures { (es : List Entry) → Stands B.Meant.meaning progress.now es → Next B.Meant.meaning es row_number kind row.now → sum.value ≡ sum_of B.Meant.meaning (es ++ entry_of B.Meant.meaning row.now ∷ []) → refusal_in of_file result ≡ in_row row_number (first_some (wrong 24 is_total B.Meant.meaning es row.now ∷ (wrong 25 is_count B.Meant.meaning es row.now ∷ []))) }
+    ensures { (es : List Entry) → Stands B.meaning progress.now es → IsNext B.meaning es next.entry → IsSumWith B.meaning es next.entry sum → refusal_in of_file result ≡ in_row next.entry.number (first_some (wrong 24 is_total B.meaning es next.entry.row.now ∷ (wrong 25 is_count B.meaning es next.entry.row.now ∷ []))) }
 {
-    let worked = progress.worked(book, row_number, kind, sum);
-    check_worked(book.fields(kind), Look::Totals, worked, row_number, row)?;
-    check_worked(book.fields(kind), Look::Counts, worked, row_number, row)
+    let worked = progress.worked(book, next.number, next.kind, sum);
+    check_worked(book.fields(next.kind), Look::Totals, worked, next)?;
+    check_worked(book.fields(next.kind), Look::Counts, worked, next)
 }
 
 // The sum with a row that was read, once its owner and its worked fields are right.
-fn work_out<B: Book>(
-    progress: &Progress,
-    book: &B,
-    row_number: usize,
-    kind: Kind,
-    row: &[u8; 750],
-) -> Result<Cents, FileFault>
-    ensures refused { (es : List Entry) → Stands B.Meant.meaning progress.now es → Next B.Meant.meaning es row_number kind row.now → refusal_in of_file result ≡ in_row row_number (first_some (work_checks B.Meant.meaning es row.now)) }
-    ensures sum { (es : List Entry) → Stands B.Meant.meaning progress.now es → Next B.Meant.meaning es row_number kind row.now → IfOk result (λ sum. sum.value ≡ sum_of B.Meant.meaning (es ++ entry_of B.Meant.meaning row.now ∷ [])) }
+fn work_out<B: Book>(progress: &Progress, book: &B, next: NextRow) -> Result<Cents, FileFault>
+    ensures refused { (es : List Entry) → Stands B.meaning progress.now es → IsNext B.meaning es next.entry → refusal_in of_file result ≡ in_row next.entry.number (first_some (work_checks B.meaning es next.entry.row.now)) }
+    ensures sum { (es : List Entry) → Stands B.meaning progress.now es → IsNext B.meaning es next.entry → IfOk result (IsSumWith B.meaning es next.entry) }
 {
-    progress.tie(book, row_number, kind, row)?;
-    check_numbers(progress, book, row_number, kind, row)?;
-    let sum = progress.sum_with(book, row_number, kind, row)?;
-    check_totals(progress, book, row_number, kind, row, sum)?;
+    progress.tie(book, next)?;
+    check_numbers(progress, book, next)?;
+    let sum = progress.sum_with(book, next)?;
+    check_totals(progress, book, next, sum)?;
     Ok(sum)
 }
 
 fn take_row<B: Book>(progress: &mut Progress, book: &B, row: &[u8; 750]) -> Result<(), FileFault>
-    ensures { (es : List Entry) → Stands B.Meant.meaning progress.old es → MatchResult result (λ _. (row_fault B.Meant.meaning es row.now ≡ None) × Stands B.Meant.meaning progress.new (es ++ entry_of B.Meant.meaning row.now ∷ [])) (λ e. row_fault B.Meant.meaning es row.now ≡ Some (of_file e)) }
+    ensures { (es : List Entry) → Stands B.meaning progress.old es → MatchResult result (λ _. (row_fault B.meaning es row.now ≡ None) × Stands B.meaning progress.new (es ++ entry_of B.meaning row.now ∷ [])) (λ e. row_fault B.meaning es row.now ≡ Some (of_file e)) }
 {
-    let (number, kind) = read_next(progress, book, row)?;
-    let sum = work_out(progress, book, number, kind, row)?;
-    progress.advance(book, number, kind, row, sum);
+    let next = read_next(progress, book, row)?;
+    let sum = work_out(progress, book, next)?;
+    progress.advance(book, next, sum);
     Ok(())
 }
 
 fn finish<B: Book>(progress: &Progress, book: &B) -> Result<Accepted, FileFault>
-    ensures { (es : List Entry) → Stands B.Meant.meaning progress.now es → told result ≡ checked_after B.Meant.meaning es [] }
+    ensures { (es : List Entry) → Stands B.meaning progress.now es → told result ≡ checked_after B.meaning es [] }
 {
     let rows = progress.rows();
     if !progress.is_closed(book) {
@@ -112,18 +99,17 @@ fn finish<B: Book>(progress: &Progress, book: &B) -> Result<Accepted, FileFault>
 
 // Checks the rows of a source, one after the other, with room for a single row: their count and their sum, or the first refusal.
 pub fn check<B: Book, S: Source>(book: &B, source: &S) -> Result<Accepted, FileFault>
-    ensures answer { told result ≡ checked B.Meant.meaning (S.Source.rows source.now) }
-    ensures law { FileLaw B.Meant.meaning }
-    ensures backed { IfOk result (λ a. OneLegal B.Meant.meaning (S.Source.rows source.now) (accepted_of a)) }
-    ensures passes { (es : List Entry) → Legal B.Meant.meaning es → rows_of B.Meant.meaning es ≡ S.Source.rows source.now → told result ≡ Ok (accepted B.Meant.meaning es) }
+    ensures answer { told result ≡ checked B.meaning (S.Source.rows source.now) }
+    ensures law { FileLaw B.meaning }
+    ensures backed { IfOk result (λ a. OneLegal B.meaning (S.Source.rows source.now) (accepted_of a)) }
+    ensures passes { (es : List Entry) → Legal B.meaning es → rows_of B.meaning es ≡ S.Source.rows source.now → told result ≡ Ok (accepted B.meaning es) }
 {
     let mut progress = Progress::new();
     let mut row = [0u8; 750];
     let count = source.count();
-    for i in 0..count {
-        let Ok(()) = source.copy_row(i + 1, &mut row) else {
-            unreachable();
-        };
+    // By their numbers: a source is asked for a row, and hands out no iterator.
+    for n in 1..=count {
+        source.copy_row(n, &mut row).unwrap();
         take_row(&mut progress, book, &row)?;
     }
     finish(&progress, book)

@@ -33,7 +33,7 @@ lined_forth l h good =
     let rest : drop 750 l ≡ (13 ∷ 10 ∷ []) = cc in
     ap (λ t. take 750 l ++ t) (sym rest) ∙ take-append-drop 750 l
 
--- what `write` leaves
+-- a row with CR and LF set behind it
 pub lined_written : (r o : List ℕ) → length r ≡ 750 → length o ≡ 752 → slice_set (slice_set (r ++ drop 750 o) 750 13) 751 10 ≡ lined r
 lined_written r o h n =
     let a = drop_more o 750 0 (omega arith) in

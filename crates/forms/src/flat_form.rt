@@ -36,14 +36,14 @@ impl Form for Flat {
     }
 
     fn write(row: &[u8; 750], out: &mut [u8]) {
-        if out.len() == LINE {
-            out.copy_from_slice(row);
+        if let Some(line) = out.as_mut_array::<LINE>() {
+            *line = *row;
         }
     }
 
     fn read(from: &[u8], out: &mut [u8; 750]) {
-        if from.len() == LINE {
-            out.copy_from_slice(from);
+        if let Some(line) = from.as_array::<LINE>() {
+            *out = *line;
         }
     }
 

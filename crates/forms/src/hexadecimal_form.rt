@@ -1,5 +1,5 @@
 // The hexadecimal form: two digits for each byte, the high one first, then LF.
-ghost use Rattle.std.specs.Prelude.{◌≡◌, ◌<◌, length};
+ghost use Rattle.std.specs.Prelude.{◌≡◌, ◌+◌, ◌*◌, ◌<◌};
 ghost use Rattle.forms.specs.Forms.{digit, digit_value, is_digit, hex_line, unhexed, hex_byte, hex_whole};
 ghost use Rattle.forms.specs.FormLaws.{hex_fills, hex_back, hex_sound, hex_forth};
 ghost use Rattle.std.proofs.Common.{rules};
@@ -26,37 +26,43 @@ fn to_digit(value: u8) -> u8
 fn is_digit(byte: u8) -> bool
     ensures { result ≡ is_digit byte }
 {
-    byte >= b'0' && byte < b'9' + 1 || byte >= b'A' && byte < b'F' + 1
+    matches!(byte, b'0'..=b'9' | b'A'..=b'F')
 }
 
 // The value of a digit; of another byte, some number below 16.
 fn to_value(byte: u8) -> u8
     ensures { (result ≡ digit_value byte) × (result < 16) }
 {
-    if byte < b'9' + 1 {
+    if byte <= b'9' {
         byte.saturating_sub(b'0')
     } else {
         (byte - (b'A' - 10)) % 16
     }
 }
 
-fn lay(row: &[u8; 750], out: &mut [u8])
-    requires { length out.old ≡ 1501 }
+fn lay(row: &[u8; 750], out: &mut [u8; LINE])
     ensures { out.new ≡ hex_line row.now }
 {
-    for k in 0..750 {
-        out[2 * k] = to_digit(row[k] / 16);
-        out[2 * k + 1] = to_digit(row[k] % 16);
+    // Each pair is written by its index: a proof knows no byte that is written through `chunks_exact_mut`.
+    for (k, byte) in row.iter().enumerate() {
+        out[2 * k] = to_digit(*byte / 16);
+        out[2 * k + 1] = to_digit(*byte % 16);
     }
     out[1500] = b'\n';
 }
 
-fn pick_up(from: &[u8], out: &mut [u8; 750])
-    requires { length from.now ≡ 1501 }
+// The byte that two digits stand for, the high one first.
+fn to_byte(high: u8, low: u8) -> u8
+    ensures { result ≡ digit_value high * 16 + digit_value low }
+{
+    to_value(high) * 16 + to_value(low)
+}
+
+fn pick_up(from: &[u8; LINE], out: &mut [u8; 750])
     ensures { out.new ≡ unhexed from.now }
 {
-    for k in 0..750 {
-        out[k] = to_value(from[2 * k]) * 16 + to_value(from[2 * k + 1]);
+    for (k, byte) in out.iter_mut().enumerate() {
+        *byte = to_byte(from[2 * k], from[2 * k + 1]);
     }
 }
 
@@ -86,14 +92,14 @@ impl Form for Hexadecimal {
     }
 
     fn write(row: &[u8; 750], out: &mut [u8]) {
-        if out.len() == LINE {
-            lay(row, out);
+        if let Some(line) = out.as_mut_array::<LINE>() {
+            lay(row, line);
         }
     }
 
     fn read(from: &[u8], out: &mut [u8; 750]) {
-        if from.len() == LINE {
-            pick_up(from, out);
+        if let Some(line) = from.as_array::<LINE>() {
+            pick_up(line, out);
         }
     }
 

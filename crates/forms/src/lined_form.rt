@@ -11,15 +11,6 @@ const LINE: usize = 752;
 
 pub struct Lined;
 
-fn lay(row: &[u8; 750], out: &mut [u8])
-    requires { length out.old ≡ 752 }
-    ensures { out.new ≡ lined row.now }
-{
-    out[0..750].copy_from_slice(row);
-    out[750] = b'\r';
-    out[751] = b'\n';
-}
-
 impl Form for Lined {
     ghost size = { 752 };
 
@@ -46,24 +37,23 @@ impl Form for Lined {
     }
 
     fn write(row: &[u8; 750], out: &mut [u8]) {
-        if out.len() == LINE {
-            lay(row, out);
+        if let Some(line) = out.as_mut_array::<LINE>() {
+            line[0..750].copy_from_slice(row);
+            line[750..].copy_from_slice(b"\r\n");
         }
     }
 
     fn read(from: &[u8], out: &mut [u8; 750]) {
-        if from.len() == LINE {
-            out.copy_from_slice(&from[0..750]);
+        if let Some(line) = from.as_array::<LINE>() {
+            out.copy_from_slice(&line[0..750]);
         }
     }
 
     fn allows(place: usize, byte: u8) -> bool {
-        if place < 750 {
-            true
-        } else if place == 750 {
-            byte == b'\r'
-        } else {
-            byte == b'\n'
+        match place {
+            0..750 => true,
+            750 => byte == b'\r',
+            _ => byte == b'\n',
         }
     }
 }

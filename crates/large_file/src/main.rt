@@ -6,8 +6,8 @@ use example_entries::{charge, header, trailer};
 use files::checking::{Accepted, check};
 use forms::Flat;
 use outgoing_receipts::OutgoingReceipts;
-use refusals::{DraftFault, Refusal};
-use rows::{Filling, Opened, Written};
+use refusals::{DraftFault, InputFault, Refusal};
+use rows::{Opened, Written};
 use std::time::Instant;
 
 // 65,536 rows of 750 bytes: one row more than a file may have.
@@ -26,21 +26,13 @@ fn draft_file(charges: u32, memory: &mut [u8]) -> Result<(), DraftFault> {
     draft.close(trailer())
 }
 
-fn check_flat(bytes: &[u8]) -> Result<Accepted, Refusal> {
-    match Opened::<Flat>::open(bytes) {
-        Ok(opened) => match check(&OutgoingReceipts, &opened) {
-            Ok(accepted) => Ok(accepted),
-            Err(fault) => Err(fault.refusal()),
-        },
-        Err(fault) => Err(fault.refusal()),
-    }
+fn check_flat(bytes: &[u8]) -> Result<Accepted, InputFault> {
+    let opened: Opened<Flat> = Opened::open(bytes)?;
+    Ok(check(&OutgoingReceipts, &opened)?)
 }
 
 fn tell_refusal(rt: &HostRuntime, what: &str, refusal: Refusal) -> anyhow::Result<()> {
-    let number = refusal.number;
-    let row = refusal.first;
-    let position = refusal.second;
-    println!(rt; "{what}: refusal {number}, row {row}, position {position}")?;
+    println!(rt; "{what}: {refusal}")?;
     Ok(())
 }
 
@@ -57,16 +49,15 @@ fn tell_draft(rt: &HostRuntime, what: &str, answer: Result<(), DraftFault>) -> a
 fn tell_check(
     rt: &HostRuntime,
     what: &str,
-    answer: Result<Accepted, Refusal>,
+    answer: Result<Accepted, InputFault>,
 ) -> anyhow::Result<()> {
     match answer {
-        Ok(accepted) => {
-            let rows = accepted.rows;
-            let cents = accepted.sum.value();
+        Ok(Accepted { rows, sum }) => {
+            let cents = sum.value();
             println!(rt; "{what}: {rows} rows, {cents} cents")?;
             Ok(())
         }
-        Err(refusal) => tell_refusal(rt, what, refusal),
+        Err(fault) => tell_refusal(rt, what, fault.refusal()),
     }
 }
 

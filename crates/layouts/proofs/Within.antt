@@ -1,8 +1,16 @@
 -- What the laws give of one field: it lies within its row. And a field as the code reads it is a field of the meaning.
-use Rattle.std.proofs.Common.{◌≡◌, ℕ, zero, suc, ◌+◌, ◌<◌, ◌≤◌, true, false, cond, eqb, List, [], ◌∷◌, map, length, get_or, Some, sym, refl, ap, ◌∙◌, subst, le_of_suc-le-suc, not-suc-le-zero, arith, lit≤}
+use Rattle.std.proofs.Common.{◌≡◌, ℕ, zero, suc, ◌+◌, ◌<◌, ◌≤◌, true, false, cond, eqb, List, [], ◌∷◌, map, length, get_or, Some, Option, sym, refl, ap, ◌∙◌, subst, le_of_suc-le-suc, not-suc-le-zero, arith, lit≤, Bor}
 use lib.ListN.{length-map}
 use Rattle.std.specs.List.{AllByRecursion}
 use Rattle.std.proofs.ByRecursion.{All-weaker}
+use Rattle.std.proofs.iter.Yields.{fronts}
+use Rattle.std.proofs.lemmas.Iterator.{zips}
+use Rattle.std.proofs.lemmas.Slice.Zip.{zip_turn}
+use Rattle.std.specs.declared.iter.Zip.{Zip}
+use Rattle.std.specs.declared.slice.Iter.{Iter}
+use Rattle.std.specs.Iterator.{Yields}
+use Rattle.std.specs.Iterator.Adapters.{zip_first, zip_second}
+use Rattle.std.specs.Slice.Iter.{iter_rest}
 use Rattle.fields.specs.Field as s
 use Rattle.fields.specs.Meaning.{field_of}
 use Rattle.fields.specs.declared.field.Field.{Field}
@@ -63,3 +71,11 @@ read_inside l w m xs e i d less =
     let ys = (kind_of l m).fields in
     let within : i < length ys = omega (arith, as_many xs ys e) in
     subst (λ (f : s.Field). Inside f) (sym (field_is xs ys e i d less)) (field_inside l w m i within)
+
+-- the law at the field of a pair, in a loop over the fields and their names
+pub paired_inside : {X : Type 0} (l : Layout) → Lawful l → (m : ℕ) (fs : List Field) (ns : List X) → map field_of fs ≡ (kind_of l m).fields →
+    (xs : List (Bor Field × Bor X)) (s t u : Zip (Iter Field) (Iter X)) (r : Option (Bor Field × Bor X)) → iter_rest (zip_first s) ≡ fs → iter_rest (zip_second s) ≡ ns → Yields (zips fronts fronts) s xs t →
+    (p : Bor Field × Bor X) → r ≡ Some p → zips fronts fronts t r u → Inside (field_of p.0.now)
+paired_inside l w m fs ns e xs s t u r first second y p is step =
+    let turn = zip_turn fs ns xs s t u r first second y p is step in
+    subst (λ (f : Field). Inside (field_of f)) (sym (turn.2 unread)) (read_inside l w m fs e (length xs) unread turn.0)

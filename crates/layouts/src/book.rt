@@ -1,75 +1,72 @@
 // A book: its meaning, its laws, and the questions that each answer their part of the meaning.
-ghost use Rattle.std.specs.Prelude.{◌≡◌, map};
+ghost use Rattle.std.specs.Prelude.{◌≡◌, ℕ, map, Option};
 ghost use Rattle.fields.specs.Field.{any_of};
 ghost use Rattle.fields.specs.Meaning.{field_of};
+ghost use Rattle.layouts.specs.declared.kinds.Place.{Place};
 ghost use Rattle.layouts.specs.Layout.{Layout, kind_of};
 ghost use Rattle.layouts.specs.Lawful.{Lawful};
 ghost use Rattle.layouts.specs.Meaning.{kind_marked, group_in, largest_in, place_in};
 
 use crate::conditions::Condition;
 use crate::kinds::{Group, Kind, Place};
-use crate::told::Told;
 use fields::field::Field;
 
-// What a book means, the laws that it keeps, and what it fixes for itself.
-// This stands apart from the questions because a trait with both a law and a `'static` result cannot be implemented.
-pub trait Meant {
-    type Limit: Told<Value = usize>;
-
-    type Summed: Told<Value = Option<Place>>;
-
-    // The most followers that one owner may have; 0 where no kind owns followers.
-    const GROUP_LIMIT: Self::Limit;
-
-    // The amount that is summed, if any.
-    const SUMMED: Self::Summed;
-
+// What a book means, the questions that answer parts of it, and the laws that it keeps.
+// A kind that is not of the book has no fields and no conditions, follows none and is not counted.
+pub trait Book {
     ghost meaning: { Layout };
 
-    ghost lawful: { Lawful meaning };
+    ghost GROUP_LIMIT: { ℕ };
 
-    ghost limited: { Self.Limit.Told.said ≡ largest_in meaning.group };
+    ghost SUMMED: { Option Place };
 
-    ghost sums: { Self.Summed.Told.said ≡ place_in meaning.summed };
-}
+    // The most followers that one owner may have; 0 where no kind owns followers.
+    const GROUP_LIMIT: usize;
 
-// A kind that is not of the book has no fields and no conditions, follows none and is not counted.
-pub trait Book: Meant {
+    // The amount that is summed, if any.
+    const SUMMED: Option<Place>;
+
     fn kind_of(&self, mark: u8) -> Option<Kind>
-        ensures { result ≡ kind_marked Self.Meant.meaning mark };
+        ensures { result ≡ kind_marked meaning mark };
 
     fn fields(&self, kind: Kind) -> &'static [Field]
-        ensures { map field_of result.now ≡ (kind_of Self.Meant.meaning kind.mark).fields };
+        ensures { map field_of result.now ≡ (kind_of meaning kind.mark).fields };
 
     fn conditions(&self, kind: Kind) -> &'static [Condition]
-        ensures { result.now ≡ (kind_of Self.Meant.meaning kind.mark).conditions };
+        ensures { result.now ≡ (kind_of meaning kind.mark).conditions };
 
     // Whether a row of the kind may stand directly after one of the kind `before`.
     fn may_follow(&self, kind: Kind, before: Kind) -> bool
-        ensures { result ≡ any_of (kind_of Self.Meant.meaning kind.mark).after before.mark };
+        ensures { result ≡ any_of (kind_of meaning kind.mark).after before.mark };
 
     fn header(&self) -> Kind
-        ensures { result.mark ≡ Self.Meant.meaning.header };
+        ensures { result.mark ≡ meaning.header };
 
     fn trailer(&self) -> Kind
-        ensures { result.mark ≡ Self.Meant.meaning.trailer };
+        ensures { result.mark ≡ meaning.trailer };
 
     fn group(&self) -> Option<Group>
-        ensures { result ≡ group_in Self.Meant.meaning.group };
+        ensures { result ≡ group_in meaning.group };
 
     // Whether the trailer counts rows of the kind.
     fn is_counted(&self, kind: Kind) -> bool
-        ensures { result ≡ any_of Self.Meant.meaning.counted kind.mark };
+        ensures { result ≡ any_of meaning.counted kind.mark };
+
+    ghost lawful: { Lawful meaning };
+
+    ghost limited: { GROUP_LIMIT ≡ largest_in meaning.group };
+
+    ghost sums: { SUMMED ≡ place_in meaning.summed };
 }
 
-pub fn largest_group<B: Meant>(_book: &B) -> usize
-    ensures { result ≡ largest_in B.Meant.meaning.group }
+pub fn largest_group<B: Book>(_book: &B) -> usize
+    ensures { result ≡ largest_in B.meaning.group }
 {
-    B::GROUP_LIMIT.get()
+    B::GROUP_LIMIT
 }
 
-pub fn summed_place<B: Meant>(_book: &B) -> Option<Place>
-    ensures { result ≡ place_in B.Meant.meaning.summed }
+pub fn summed_place<B: Book>(_book: &B) -> Option<Place>
+    ensures { result ≡ place_in B.meaning.summed }
 {
-    B::SUMMED.get()
+    B::SUMMED
 }

@@ -1,6 +1,7 @@
 // Kinds of row, and what a book tells of them besides their fields.
 
-// A kind of row. It goes by its mark, the byte in position 1.
+// A kind of row. It goes by its mark, the byte in position 1: an enum of each book would ask more of whoever asks a book
+// of a kind, since a book answers for every mark.
 #[derive(Clone, Copy, PartialEq, Eq, Debug)]
 pub struct Kind {
     pub mark: u8,

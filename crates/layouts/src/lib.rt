@@ -5,5 +5,5 @@ pub mod book;
 pub mod conditions;
 pub mod kinds;
 pub mod named;
+pub mod placed;
 pub mod roles;
-pub mod told;

@@ -1,5 +1,5 @@
 -- Files that the check accepts and legal lists, one to one.
-use Rattle.std.proofs.Common.{◌≡◌, ℕ, ◌^◌, ◌<◌, true, false, eqb, List, [], ◌∷◌, ◌++◌, map, length, None, Ok, sym, refl, ap, ◌∙◌, subst, ⊎_elim, append_assoc, append-nil, arith}
+use Rattle.std.proofs.Common.{◌≡◌, ℕ, ◌^◌, ◌<◌, true, false, eqb, List, [], ◌∷◌, ◌++◌, map, length, None, Ok, sym, refl, ap, ◌∙◌, subst, ⊎_elim, append_assoc, append-nil}
 use Rattle.std.specs.List.{AllByRecursion}
 use Rattle.std.proofs.lemmas.Bool.{ltb-true, eqb-true, ne_eqb, or_cases, and_from, not_from_false, both_ways}
 use Rattle.refusals.specs.Faults.{answer, unless, first_some}
@@ -28,7 +28,7 @@ closed_push l [] e = refl
 closed_push l (b ∷ bs) e = ap (λ x. eqb x.mark l.trailer) (last_push b bs e)
 
 apart : (t x : ℕ) (ms : List ℕ) → AllByRecursion (λ m. Apart m t) ms → any_of ms x ≡ true → Apart x t
-apart t x [] h e is = let z : ◌≡◌ {A = ℕ} 0 1 = cc in absurd (omega arith)
+apart t x [] h e is = absurd (cc)
 apart t x (m ∷ ms) h e is =
     ⊎_elim
     (λ y. h.0 (sym (eqb-true x m y) ∙ is))

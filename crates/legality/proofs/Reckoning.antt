@@ -50,15 +50,15 @@ module _ (r : Working → ℕ) (small : (k : Working) (w : ℕ) → WorkedWide k
       let same : j ≡ k = cc in
       let less : r k < 10 ^ f.width = small k f.width (subst (λ x. WorkedWide x f.width) same w) in
       (printed f.width (r k), subst (λ x. fits (record { start = f.start; width = f.width; sort = x; required = f.required }) ≡ true → write_field (record { start = f.start; width = f.width; sort = x; required = f.required }) (Some (num (r k))) ≡ Ok (printed f.width (r k))) (sym e) (λ g. rw (g, lt-ltb (r k) (10 ^ f.width) less)) g)
-  prints_number a s (constant c) f e w g k o = let z : ◌≡◌ {A = ℕ} 0 1 = cc in absurd (omega arith)
-  prints_number a s blank f e w g k o = let z : ◌≡◌ {A = ℕ} 0 1 = cc in absurd (omega arith)
-  prints_number a s text f e w g k o = let z : ◌≡◌ {A = ℕ} 0 1 = cc in absurd (omega arith)
-  prints_number a s (word us) f e w g k o = let z : ◌≡◌ {A = ℕ} 0 1 = cc in absurd (omega arith)
-  prints_number a s number f e w g k o = let z : ◌≡◌ {A = ℕ} 0 1 = cc in absurd (omega arith)
-  prints_number a s (code cs) f e w g k o = let z : ◌≡◌ {A = ℕ} 0 1 = cc in absurd (omega arith)
-  prints_number a s date f e w g k o = let z : ◌≡◌ {A = ℕ} 0 1 = cc in absurd (omega arith)
-  prints_number a s amount f e w g k o = let z : ◌≡◌ {A = ℕ} 0 1 = cc in absurd (omega arith)
-  prints_number a s long f e w g k o = let z : ◌≡◌ {A = ℕ} 0 1 = cc in absurd (omega arith)
+  prints_number a s (constant c) f e w g k o = absurd (cc)
+  prints_number a s blank f e w g k o = absurd (cc)
+  prints_number a s text f e w g k o = absurd (cc)
+  prints_number a s (word us) f e w g k o = absurd (cc)
+  prints_number a s number f e w g k o = absurd (cc)
+  prints_number a s (code cs) f e w g k o = absurd (cc)
+  prints_number a s date f e w g k o = absurd (cc)
+  prints_number a s amount f e w g k o = absurd (cc)
+  prints_number a s long f e w g k o = absurd (cc)
 
   fit_next : (o : Origin) (f : Field) (os : List Origin) (Rest : List Cell → Type 0) → origin f ≡ o → Wide f.sort f.width → fits f ≡ true → ((vs : List Value) → length (sorts_asked os) ≡ length vs → Rest (cells os vs (reckoned_by r os))) → (vs : List Value) → length (sorts_asked (o ∷ os)) ≡ length vs → WorkedAt o f Rest (cells (o ∷ os) vs (reckoned_by r (o ∷ os)))
   fit_next of_book f os Rest e w g more vs h = (tt, more vs h)
@@ -81,7 +81,7 @@ none_wrong j looked r (reckoned s k ∷ os) = step (looked k) (eqb (r k) (r k)) 
     step : (a b : Bool) → b ≡ true → first_wrong j looked r os (reckoned_by r os) ≡ None → cond (a && not b) (Some (fault j s)) (first_wrong j looked r os (reckoned_by r os)) ≡ None
     step true true h n = n
     step false b h n = n
-    step true false h n = let z : ◌≡◌ {A = ℕ} 0 1 = cc in absurd (omega arith)
+    step true false h n = absurd (cc)
 
 right : (n x : ℕ) (f : Fault) (o : Option Fault) → cond (not (eqb n x)) (Some f) o ≡ None → (n ≡ x) × (o ≡ None)
 right n x f o e = step (eqb n x) refl e

@@ -4,14 +4,10 @@
 ghost use Rattle.legality.specs.File.{FilesKeepTheLaw};
 ghost use Rattle.legality.specs.Progress.{ProgressLaw};
 
-pub fn file_law() -> u8
+pub fn file_law()
     ensures { FilesKeepTheLaw }
-{
-    0
-}
+{}
 
-pub fn progress_law() -> u8
+pub fn progress_law()
     ensures { ProgressLaw }
-{
-    0
-}
+{}

@@ -1,6 +1,7 @@
 -- The exchange law.
-use Rattle.std.proofs.Common.{◌≡◌, ℕ, zero, suc, ◌+◌, ◌-◌, ◌<◌, ◌≤◌, min, ◌&&◌, eqb, ltb, leb, List, [], ◌∷◌, ◌++◌, map, length, get_or, None, Ok, Option, sym, refl, ap, ◌∙◌, subst, append_assoc, arith}
+use Rattle.std.proofs.Common.{◌≡◌, ℕ, ◌+◌, ◌-◌, ◌<◌, ◌≤◌, min, ◌&&◌, eqb, ltb, leb, List, [], ◌∷◌, ◌++◌, map, length, get_or, None, Ok, Option, sym, refl, ap, ◌∙◌, subst, append_assoc, arith}
 use Rattle.std.specs.List.{AllByRecursion}
+use Rattle.std.proofs.ByRecursion.{All-get_or}
 use Rattle.std.proofs.lemmas.List.{length-map, get_or-map, length_push}
 use Rattle.std.proofs.lemmas.Bool.{eq-eqb, and_from, lt-ltb, le-leb}
 use Rattle.refusals.specs.declared.table.Refusal.{Refusal}
@@ -22,11 +23,6 @@ use Rattle.lives.specs.Exchange.{Exchange, ExchangeLaw}
 use Rattle.lives.proofs.Handing.{not_judged}
 use Rattle.lives.proofs.Pools.{hand_all}
 use Rattle.lives.proofs.Lives.{Stage, lived}
-
-all_at : {X : Type 0} (P : X → Type 0) (xs : List X) (i : ℕ) (d : X) → AllByRecursion P xs → i < length xs → P (get_or xs i d)
-all_at P [] i d h l = absurd (omega arith)
-all_at P (x ∷ xs) zero d h l = h.0
-all_at P (x ∷ xs) (suc i) d h l = all_at P xs i d h.1 (omega arith)
 
 module _ (l : Layout) where
   -- a call that is not refused
@@ -78,7 +74,7 @@ module _ (l : Layout) (law : Lawful l) where
       let rows = rows_of l es in
       let s = legal_shows l law es h in
       let inside : i < length rows = omega (arith, within, length-map rows (entry_of l), ap length s.1) in
-      let sound = all_at (Sound l law) rows i [] s.0 inside in
+      let sound = All-get_or (Sound l law) rows i [] inside s.0 in
       let is : entry_of l (get_or rows i []) ≡ get_or es i no_entry = sym (get_or-map (entry_of l) rows i [] no_entry inside) ∙ ap (λ xs. get_or xs i no_entry) s.1 in
       reads_value l (get_or rows i []) (get_or es i no_entry) n sound.0 sound.1 is low high
 

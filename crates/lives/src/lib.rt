@@ -5,8 +5,6 @@ ghost use Rattle.lives.specs.Exchange.{ExchangeLaw};
 
 pub mod states;
 
-pub fn moments_law() -> u8
+pub fn moments_law()
     ensures { ExchangeLaw }
-{
-    0
-}
+{}

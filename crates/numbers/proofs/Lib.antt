@@ -1,2 +1,3 @@
 mod Calendar
 mod Writing
+mod Printing

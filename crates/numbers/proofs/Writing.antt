@@ -1,18 +1,13 @@
 -- The turns of the loop that writes digits, the lowest first.
-use Rattle.std.proofs.Common.{◌≡◌, ℕ, suc, ◌+◌, ◌-◌, ◌/◌, ◌%◌, ◌^◌, ◌<◌, List, length, drop, set, sym, ap, ◌∙◌, pow-suc, div-one, arith, length-set}
+use Rattle.std.proofs.Common.{◌≡◌, ℕ, suc, ◌+◌, ◌-◌, ◌/◌, ◌%◌, ◌^◌, ◌<◌, List, length, drop, set, sym, ap, ◌∙◌, pow-suc, arith, length-set}
 use native.Mathlib.Nat.{div-div-eq-div-mul}
-use Rattle.std.proofs.lemmas.List.{drop_all, drop-set}
+use Rattle.std.proofs.lemmas.List.{drop-set}
 use Rattle.numbers.specs.Digits.{printed}
 
 -- the places from i on hold the lowest digits of v, and rest is what is above them
 pub record Wrote (bs : List ℕ) (i rest v : ℕ) : Type 0 where
   pub low : drop i bs ≡ printed (length bs - i) v
   pub high : rest ≡ v / 10 ^ (length bs - i)
-
-pub none : (bs : List ℕ) (v : ℕ) → Wrote bs (length bs) v v
-none bs v =
-    let z : length bs - length bs ≡ 0 = omega arith in
-    record { low = rw z (drop_all (length bs) bs (omega arith)); high = rw z (sym (div-one v)) }
 
 pub more : (bs : List ℕ) (i j rest v : ℕ) → j < length bs → i ≡ j + 1 → Wrote bs i rest v → Wrote (set bs j (48 + rest % 10)) j (rest / 10) v
 more bs i j rest v l e s =
@@ -23,6 +18,3 @@ more bs i j rest v l e s =
       low = rw (length-set, more, drop-set bs j (48 + rest % 10) l, on, s.high);
       high = rw (length-set, more, pow-suc 10 n, s.high) (div-div-eq-div-mul v (10 ^ n) 10);
     }
-
-pub all : (bs : List ℕ) (i rest v : ℕ) → i ≡ 0 → Wrote bs i rest v → bs ≡ printed (length bs) v
-all bs i rest v e s = let z : length bs - 0 ≡ length bs = omega arith in rw z at (rw e at s.low)

@@ -1,8 +1,10 @@
 // Amounts of money.
-ghost use Rattle.std.specs.Prelude.{◌≡◌, ◌+◌, ◌^◌, ◌<◌, ◌≤◌, MatchOption};
+ghost use Rattle.std.specs.Prelude.{◌≡◌, ◌+◌, ◌^◌, ◌<◌, ◌≤◌, Some, MatchOption};
 ghost use Rattle.numbers.specs.Digits.{printed};
+ghost use Rattle.numbers.specs.Cents.{cents_text};
 
 use crate::digits::put_digits;
+use std::fmt;
 
 // A whole number of cents that 17 digits can write, so that two of them can be added.
 #[derive(Clone, Copy, PartialEq, Eq, Debug)]
@@ -51,5 +53,15 @@ impl Cents {
         let mut digits = [b'0'; 17];
         put_digits(&mut digits, self.value);
         digits
+    }
+}
+
+// Units, a point and two digits.
+impl fmt::Display for Cents {
+    ghost output = { λ cents. Some (cents_text cents.value) };
+
+    fn fmt<W: fmt::Write>(&self, f: &mut fmt::Formatter<W>) -> fmt::Result {
+        let (whole, rest) = (self.value / 100, self.value % 100);
+        write!(f, "{whole}.{rest:02}")
     }
 }

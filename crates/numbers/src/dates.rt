@@ -22,12 +22,9 @@ fn days_in(year: u64, month: u64) -> u64
 fn is_on_calendar(year: u64, month: u64, day: u64) -> bool
     ensures { result ≡ on_calendar year month day }
 {
-    1900 <= year
-        && year <= 2999
-        && 1 <= month
-        && month <= 12
-        && 1 <= day
-        && day <= days_in(year, month)
+    matches!(year, 1900..=2999)
+        && matches!(month, 1..=12)
+        && (1..=days_in(year, month)).contains(&day)
 }
 
 // Whether a number is 0 or a day of the Gregorian calendar in the years 1900 to 2999.

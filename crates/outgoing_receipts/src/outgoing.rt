@@ -2,13 +2,13 @@
 ghost use Rattle.std.specs.Prelude.{◌≡◌};
 ghost use Rattle.outgoing_receipts.specs.BookP.{layout_p};
 ghost use Rattle.outgoing_receipts.specs.Laws;
+ghost use Rattle.layouts.specs.Meaning.{place_in};
 ghost use Rattle.std.proofs.Common.{rules};
 
 use fields::field::{Field, Sort, Working};
-use layouts::book::{Book, Meant};
+use layouts::book::Book;
 use layouts::conditions::{Claim, Condition, Premise};
-use layouts::kinds::{Group, Kind};
-use layouts::told::{Limit, SumOf};
+use layouts::kinds::{Group, Kind, Place};
 
 // Book P.
 #[derive(Clone, Copy, PartialEq, Eq, Debug)]
@@ -152,25 +152,26 @@ static TRAILER_FIELDS: [Field; 5] = [
     Field { start: 745, width: 6, sort: Sort::Worked(Working::RowNumber), required: true },
 ];
 
-impl Meant for OutgoingReceipts {
-    type Limit = Limit<50>;
-
-    type Summed = SumOf<b'1', ORIGINAL_VALUE>;
-
-    const GROUP_LIMIT: Limit<50> = Limit;
-
-    const SUMMED: SumOf<b'1', ORIGINAL_VALUE> = SumOf;
-
+impl Book for OutgoingReceipts {
     ghost meaning = { layout_p };
+
+    ghost GROUP_LIMIT = { 50 };
+
+    ghost SUMMED = { place_in (layout_p).summed };
 
     ghost lawful = { Laws.lawful };
 
     ghost limited = { Prim.search rules };
 
     ghost sums = { Prim.search rules };
-}
 
-impl Book for OutgoingReceipts {
+    const GROUP_LIMIT: usize = 50;
+
+    const SUMMED: Option<Place> = Some(Place {
+        kind: CHARGE,
+        field: ORIGINAL_VALUE,
+    });
+
     fn kind_of(&self, mark: u8) -> Option<Kind> {
         match mark as char {
             '0' => Some(HEADER),

@@ -1,5 +1,5 @@
 -- Fields one after the other read as their contents exactly when these print as them.
-use Rattle.std.proofs.Common.{◌≡◌, ℕ, suc, ◌+◌, true, List, [], ◌∷◌, ◌++◌, length, take, drop, Some, None, Ok, Option, Result, sym, refl, ap, ◌∙◌, subst, arith, length-append, take-append-drop}
+use Rattle.std.proofs.Common.{◌≡◌, ℕ, suc, ◌+◌, true, List, [], ◌∷◌, ◌++◌, length, take, drop, Some, None, Ok, Option, Result, sym, refl, ap, ◌∙◌, arith, length-append, take-append-drop}
 use Rattle.std.proofs.lemmas.List.{length-take-le, length-drop, take_at, drop_at, nil_from_length}
 use Rattle.std.proofs.lemmas.Bool.{eq-eqb}
 use Rattle.fields.specs.declared.flaws.Flaw.{Flaw}
@@ -20,8 +20,7 @@ widths (f ∷ fs) = f.width + widths fs
 pub cells_write : (fs : List Field) → (bs : List ℕ) (cs : List Cell) → length bs ≡ widths fs → read_cells fs bs ≡ Ok cs → write_cells fs cs ≡ Ok bs
 cells_write [] bs cs l e =
     let n : cs ≡ [] = cc in
-    let b : [] ≡ bs = sym (nil_from_length bs l) in
-    subst (λ x. write_cells [] x ≡ Ok bs) (sym n) (ap Ok b)
+    rw (n, nil_from_length bs l)
 cells_write (f ∷ fs) bs cs l e =
     let p = then_ok (at_field f (read_field f (take f.width bs))) _ cs e in
     let c = p.0 in
@@ -32,7 +31,7 @@ cells_write (f ∷ fs) bs cs l e =
     let rest = cells_write fs (drop f.width bs) q.0 r q.1 in
     let q2 = q.2 in
     let is : c ∷ q.0 ≡ cs = cc in
-    subst (λ x. write_cells (f ∷ fs) x ≡ Ok bs) is
+    rw (← is)
     (ok_then (at_field f (write_field f c)) _ (take f.width bs) bs (ok_at f _ _ first)
     (ok_then (write_cells fs q.0) _ (drop f.width bs) bs rest (ap Ok (take-append-drop f.width bs))))
 
@@ -49,8 +48,8 @@ cells_read (f ∷ fs) bs (c ∷ cs) e =
     let more = cells_read fs rest cs q.1 in
     let q2 = q.2 in
     let is : b ++ rest ≡ bs = cc in
-    let here : read_field f (take f.width bs) ≡ Ok c = subst (λ x. read_field f x ≡ Ok c) (sym (take_at b rest f.width one.0) ∙ ap (take f.width) is) one.1 in
-    let there : read_cells fs (drop f.width bs) ≡ Ok cs = subst (λ x. read_cells fs x ≡ Ok cs) (sym (drop_at b rest f.width one.0) ∙ ap (drop f.width) is) more.1 in
+    let here : read_field f (take f.width bs) ≡ Ok c = rw (← is, take_at b rest f.width one.0) one.1 in
+    let there : read_cells fs (drop f.width bs) ≡ Ok cs = rw (← is, drop_at b rest f.width one.0) more.1 in
     let len : length bs ≡ f.width + widths fs = sym (ap length is) ∙ omega (arith, length-append b rest, one.0, more.0) in (
       len,
       ok_then (at_field f (read_field f (take f.width bs))) _ c (c ∷ cs) (ok_at f _ c here) (ok_then (read_cells fs (drop f.width bs)) _ cs (c ∷ cs) there refl),

@@ -1,9 +1,8 @@
 -- What stands in a row, field by field, and what is read in one go.
 use Rattle.std.proofs.Common.{◌≡◌, ℕ, zero, suc, ◌+◌, ◌-◌, ◌<◌, ◌≤◌, List, [], ◌∷◌, length, take, drop, Some, None, Ok, Err, Option, Result, sym, refl, ap, ◌∙◌, le_of_suc-le-suc, not-suc-le-zero, arith}
 use Rattle.std.proofs.lemmas.List.{drop-drop}
-use Rattle.refusals.specs.declared.table.Refusal.{Refusal}
 use Rattle.fields.specs.declared.flaws.Flaw.{Flaw}
-use Rattle.refusals.specs.Faults.{Fault, in_row, and_then, first_some, fault_in, ok_or, answer}
+use Rattle.refusals.specs.Faults.{Fault, and_then, first_some, fault_in, ok_or, answer}
 use Rattle.fields.specs.Field.{Field, family, num, txt, Cell, filled, read_field}
 use Rattle.fields.specs.InRow.{at_field, part}
 use Rattle.layouts.specs.Layout.{field_at}
@@ -11,13 +10,9 @@ use Rattle.layouts.specs.Lawful.{Covers}
 use Rattle.records.specs.Cells.{Origin, of_book, entered, reckoned, origin, origins, read_cells, digits_in}
 use Rattle.records.specs.Conditions.{number_in, cell_at, filled_at}
 use Rattle.records.specs.Held.{cell_in, cells_in, fields_fault, worked_next, digits_held}
-use Rattle.records.proofs.Options.{some_none}
+use Rattle.records.specs.declared.parted.PartedRow.{PartedRow}
+use Rattle.records.specs.Parted.{fields_in, held, HasPlace}
 use Rattle.records.proofs.Cells.{Shape, Shaped}
-
--- a field that is refused holds nothing
-pub refused_none : (f : Field) (n : ℕ) (r : Result Cell Flaw) (x : Refusal) → Some x ≡ in_row n (fault_in (at_field f r)) → None ≡ ok_or None r
-refused_none f n (Ok c) x e = some_none e
-refused_none f n (Err h) x e = refl
 
 pub cell_at_lem : (fs : List Field) (row : List ℕ) (i : ℕ) → i < length fs → cell_in (field_at fs i) row ≡ cell_at (cells_in fs row) i
 cell_at_lem [] row i l = absurd (not-suc-le-zero l)
@@ -25,12 +20,12 @@ cell_at_lem (f ∷ fs) row zero l = refl
 cell_at_lem (f ∷ fs) row (suc i) l = cell_at_lem fs row i (le_of_suc-le-suc l)
 
 -- the field that a place names, and what it holds
-module _ (fs : List Field) (row : List ℕ) (i : ℕ) (l : i < length fs) (f : Field) (e : f ≡ field_at fs i) where
-  pub held_at : cell_in f row ≡ cell_at (cells_in fs row) i
-  held_at = ap (λ f. cell_in f row) e ∙ cell_at_lem fs row i l
+module _ (r : PartedRow) (i : ℕ) (h : HasPlace r i) (f : Field) (e : f ≡ field_at (fields_in r) i) where
+  pub held_at : cell_in f r.row.now ≡ cell_at (held r) i
+  held_at = rw e (cell_at_lem (fields_in r) r.row.now i h)
 
-  pub filled_at_lem : filled (family f.sort) (cell_in f row) ≡ filled_at fs (cells_in fs row) i
-  filled_at_lem = ap (λ f. filled (family f.sort) (cell_in f row)) e ∙ ap (filled (family (field_at fs i).sort)) (cell_at_lem fs row i l)
+  pub filled_at_lem : filled (family f.sort) (cell_in f r.row.now) ≡ filled_at (fields_in r) (held r) i
+  filled_at_lem = rw e (ap (filled (family (field_at (fields_in r) i).sort)) (cell_at_lem (fields_in r) r.row.now i h))
 
 -- one field and the fields after it
 joined : (f : Field) (r : Result Cell Flaw) (o : Option Fault) (cs : List Cell) → and_then (at_field f r) (λ c. and_then (answer o cs) (λ cs. Ok (c ∷ cs))) ≡ answer (first_some (fault_in (at_field f r) ∷ (o ∷ []))) (ok_or None r ∷ cs)

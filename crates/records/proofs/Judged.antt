@@ -1,5 +1,5 @@
 -- A row of a known kind, judged field by field.
-use Rattle.std.proofs.Common.{◌≡◌, ℕ, ◌<◌, List, [], ◌∷◌, length, Some, None, Ok, Option, sym, refl, ap, ◌∙◌, subst, lit≤}
+use Rattle.std.proofs.Common.{◌≡◌, ℕ, ◌<◌, List, [], ◌∷◌, length, Some, None, Ok, Option, sym, refl, ap, ◌∙◌, lit≤}
 use Rattle.std.specs.List.{AllByRecursion}
 use Rattle.refusals.specs.declared.table.Refusal.{Refusal}
 use Rattle.refusals.specs.Faults.{Fault, in_row, first_some, fault_in, ok_or, answer}
@@ -43,8 +43,8 @@ module _ (l : Layout) (law : Lawful l) (row : List ℕ) (len : length row ≡ 75
       let os = origins_of l (mark_of row) in
       let cs = cells_in (fields_of l (mark_of row)) row in
       let here : cs ≡ ok_or [] (cells_of l row) = ap (ok_or []) (sym cells_good) in
-      let both : Alike os cs (cells os (values_in os cs) []) = subst (λ x. Alike os x (cells os (values_in os cs) [])) (dealt_again os cs held_shaped) (alike os (values_in os cs) (digits_in os cs) []) in
-      subst (λ x. Alike os cs (cells os (values_in os x) [])) here both
+      let both : Alike os cs (cells os (values_in os cs) []) = rw (dealt_again os cs held_shaped) at (alike os (values_in os cs) (digits_in os cs) []) in
+      rw (← here) both
 
   -- the conditions look at what the fields hold
   pub conditions_held : conditions15 l (entry_of l row) ≡ broken (fields_of l (mark_of row)) (cells_in (fields_of l (mark_of row)) row) (kind_of l (mark_of row)).conditions
@@ -64,40 +64,29 @@ module _ (l : Layout) (law : Lawful l) (row : List ℕ) (len : length row ≡ 75
       let fs = fields_of l (mark_of row) in
       ap (λ x. digits_in (origins_of l (mark_of row)) (ok_or [] x)) cells_good ∙ digits_in_lem fs row held_shaped
 
--- what the three checks find, one after the other
-second : (n : ℕ) (x : Refusal) (a b c : Option Fault) → a ≡ None → Some x ≡ in_row n b → Some x ≡ in_row n (first_some (a ∷ (b ∷ (c ∷ []))))
-second n x None None c h e = some_none e
-second n x None (Some f) c h e = e
-second n x (Some f) b c h e = some_none h
+-- a known mark, then what the fields and the conditions find
+known_first : (a b c d e : Option Fault) → a ≡ None → b ≡ d → (d ≡ None → c ≡ e) → first_some (a ∷ (b ∷ (c ∷ []))) ≡ first_some (d ∷ (e ∷ []))
+known_first None b c None e h k m = rw (k, m refl)
+known_first None b c (Some f) e h k m = rw k
+known_first (Some f) b c d e h k m = some_none h
 
-third : (n : ℕ) (o : Option Refusal) (a b c : Option Fault) → a ≡ None → b ≡ None → o ≡ in_row n c → o ≡ in_row n (first_some (a ∷ (b ∷ (c ∷ []))))
-third n o None None None h k e = e
-third n o None None (Some f) h k e = e
-third n o None (Some f) c h k e = some_none k
-third n o (Some f) b c h k e = some_none h
+-- the first of two that is found, where the row is known
+pub found_first : (n : ℕ) (x : Refusal) (a b : Option Fault) → Some x ≡ in_row n a → Some x ≡ in_row n (first_some (a ∷ (b ∷ [])))
+found_first n x None b e = some_none e
+found_first n x (Some f) b e = e
+
+pub found_second : (n : ℕ) (o : Option Refusal) (a b : Option Fault) → None ≡ in_row n a → o ≡ in_row n b → o ≡ in_row n (first_some (a ∷ (b ∷ [])))
+found_second n o None None h e = e
+found_second n o None (Some f) h e = e
+found_second n o (Some f) b h e = some_none (sym h)
 
 -- fs and cs are the fields and the conditions that the book answers for the kind with the mark m
-module _ (l : Layout) (law : Lawful l) (row : List ℕ) (n m : ℕ) (found : m ≡ mark_of row) (known : None ≡ in_row n (mark10 l (mark_of row))) (fs : List Field) (answered : fs ≡ fields_of l m) where
+module _ (l : Layout) (law : Lawful l) (row : List ℕ) (n m : ℕ) (found : m ≡ mark_of row) (known : None ≡ in_row n (mark10 l (mark_of row))) (fs : List Field) (answered : fs ≡ fields_of l m) (cs : List Condition) (same : cs ≡ (kind_of l m).conditions) where
   kind_known : mark10 l (mark_of row) ≡ None
   kind_known = no_fault n _ (sym known)
 
-  is : fs ≡ fields_of l (mark_of row)
-  is = answered ∙ ap (fields_of l) found
+  pub named : AllByRecursion (Named fs) cs
+  named = rw (answered, same, found) (lawful_kind l law (mark_of row) kind_known).0.conditions
 
-  pub at_fields : (x : Refusal) → Some x ≡ in_row n (fields_fault fs row) → Some x ≡ in_row n (first_some (row_faults l row))
-  at_fields x e =
-      second n x (mark10 l (mark_of row)) (fault_in (cells_of l row)) (conditions15 l (entry_of l row)) kind_known
-      (e ∙ ap (in_row n) (ap (λ fs. fields_fault fs row) is ∙ sym (fault_held l law row kind_known)))
-
-  module _ (cs : List Condition) (same : cs ≡ (kind_of l m).conditions) where
-    pub named : AllByRecursion (Named fs) cs
-    named =
-        let all = (lawful_kind l law (mark_of row) kind_known).0.conditions in
-        subst (λ fs. AllByRecursion (Named fs) cs) (sym is) (subst (AllByRecursion (Named (fields_of l (mark_of row)))) (sym (same ∙ ap (λ m. (kind_of l m).conditions) found)) all)
-
-    pub at_conditions : length row ≡ 750 → None ≡ in_row n (fields_fault fs row) → (o : Option Refusal) → o ≡ in_row n (broken fs (cells_in fs row) cs) → o ≡ in_row n (first_some (row_faults l row))
-    at_conditions len good o e =
-        let good' : fields_fault (fields_of l (mark_of row)) row ≡ None = ap (λ fs. fields_fault fs row) (sym is) ∙ no_fault n _ (sym good) in
-        let there = ap (λ fs. broken fs (cells_in fs row) cs) is ∙ ap (broken (fields_of l (mark_of row)) (cells_in (fields_of l (mark_of row)) row)) (same ∙ ap (λ m. (kind_of l m).conditions) found) in
-        third n o (mark10 l (mark_of row)) (fault_in (cells_of l row)) (conditions15 l (entry_of l row)) kind_known (fault_held l law row kind_known ∙ good')
-        (e ∙ ap (in_row n) (there ∙ sym (conditions_held l law row len kind_known good')))
+  pub judged : length row ≡ 750 → first_some (row_faults l row) ≡ first_some (fields_fault fs row ∷ (broken fs (cells_in fs row) cs ∷ []))
+  judged len = rw (answered, same, found) (known_first _ _ _ _ _ kind_known (fault_held l law row kind_known) (conditions_held l law row len kind_known))

@@ -9,7 +9,7 @@ use Rattle.fields.specs.InRow.{at_field}
 use Rattle.fields.proofs.Results.{err_ok, then_ok, passed}
 use Rattle.layouts.specs.Layout.{Layout, Kind, found, or_none, kind_of}
 use Rattle.layouts.specs.Lawful.{Covers, Begins, Lawful, LawfulKind}
-use Rattle.records.specs.Cells.{read_cells, write_cells, cells, values_in, digits_in, sorts_asked, wrong_value, unprinted}
+use Rattle.records.specs.Cells.{read_cells, write_cells, cells, values_in, digits_in}
 use Rattle.records.specs.Row.{Entry, Reading, fields_of, origins_of, has_mark, mark10, conditions15, Acceptable, print_row, mark_of, cells_of, entry_of, digits_of, row_faults, read_row, RowLaw, RowsKeepTheLaw, OneEntry, EqualRows}
 use Rattle.records.proofs.Options.{some_none, none_all, all_none, answered, answers, ok_fault, fault_ok, at_ok}
 use Rattle.records.proofs.Cells.{widths, cells_write, cells_read, shaped, dealt_again, gathered, none_wrong, alike, all_printed}
@@ -83,11 +83,11 @@ module _ (l : Layout) (law : Lawful l) where
       let prints : write_cells fs (cells os (values_in os cs) (digits_in os cs)) ≡ Ok row = ap (write_cells fs) again ∙ w in (
         record {
           known = n.0;
-          valued = subst (λ x. wrong_value (sorts_asked os) (values_in os x) ≡ None) (sym here) (none_wrong os cs sh);
-          prints = subst (λ x. unprinted fs (cells os (values_in os x) []) ≡ None) (sym here) (all_printed fs (cells os (values_in os cs) (digits_in os cs)) (cells os (values_in os cs) []) row (alike os (values_in os cs) (digits_in os cs) []) prints);
+          valued = rw here (none_wrong os cs sh);
+          prints = rw here (all_printed fs (cells os (values_in os cs) (digits_in os cs)) (cells os (values_in os cs) []) row (alike os (values_in os cs) (digits_in os cs) []) prints);
           keeps = n.1.1.0;
         },
-        subst (λ x. write_cells fs (cells os (values_in os x) (digits_in os x)) ≡ Ok row) (sym here) prints,
+        rw here prints,
       )
 
   -- a row that was printed reads back as what it was printed from

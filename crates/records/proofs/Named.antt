@@ -1,5 +1,5 @@
 -- Conditions look at no worked field: contents that differ in worked fields only break the same conditions.
-use Rattle.std.proofs.Common.{◌≡◌, ℕ, zero, suc, ◌+◌, ◌<◌, cond, not, ◌&&◌, ◌||◌, eqb, leb, List, [], ◌∷◌, length, Some, refl, ap, ◌∙◌, le_of_suc-le-suc, not-suc-le-zero, arith}
+use Rattle.std.proofs.Common.{◌≡◌, ℕ, zero, suc, ◌+◌, ◌<◌, cond, not, ◌&&◌, ◌||◌, eqb, leb, List, [], ◌∷◌, length, Some, refl, ap, ◌∙◌, le_of_suc-le-suc, not-suc-le-zero}
 use Rattle.std.specs.List.{AllByRecursion}
 use Rattle.refusals.specs.Faults.{fault}
 use Rattle.fields.specs.Field.{Field, Sort, constant, blank, text, word, number, code, date, amount, long, worked, Cell, family, filled}
@@ -16,13 +16,13 @@ use Rattle.records.proofs.Cells.{AlikeAt, Alike}
 
 -- sorts that a condition may name are not worked
 code_unworked : (s : Sort) → CodeSort s → NotWorked s
-code_unworked s h k e = let is = h.1 in let z : ◌≡◌ {A = ℕ} 0 1 = cc in omega arith
+code_unworked s h k e = let is = h.1 in cc
 
 amount_unworked : (s : Sort) → s ≡ amount → NotWorked s
-amount_unworked s h k e = let z : ◌≡◌ {A = ℕ} 0 1 = cc in omega arith
+amount_unworked s h k e = cc
 
 text_unworked : (s : Sort) → s ≡ text → NotWorked s
-text_unworked s h k e = let z : ◌≡◌ {A = ℕ} 0 1 = cc in omega arith
+text_unworked s h k e = cc
 
 alike_here : (a : ℕ) (s : Sort) (c d : Cell) → NotWorked s → AlikeAt (origin_at a (family s)) c d → c ≡ d
 alike_here a (constant x) c d h e = e

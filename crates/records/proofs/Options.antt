@@ -1,12 +1,12 @@
 -- Answers and refusals.
-use Rattle.std.proofs.Common.{◌≡◌, ℕ, Bool, true, false, List, [], ◌∷◌, Some, None, Ok, Err, Option, Result, sym, refl, ap, subst, arith}
+use Rattle.std.proofs.Common.{◌≡◌, ℕ, Bool, true, false, List, [], ◌∷◌, Some, None, Ok, Err, Option, Result, refl, ap}
 use Rattle.fields.specs.declared.flaws.Flaw.{Flaw}
 use Rattle.refusals.specs.Faults.{Fault, in_row, unless, first_some, fault_in, answer}
 use Rattle.fields.specs.Field.{Field}
 use Rattle.fields.specs.InRow.{at_field}
 
 pub some_none : {F X : Type 0} {f : F} → Some f ≡ None → X
-some_none e = let z : ◌≡◌ {A = ℕ} 0 1 = cc in absurd (omega arith)
+some_none e = cc
 
 abbrev pub AllNone : {F : Type 0} → List (Option F) → Type 0
 AllNone [] = Unit {0}
@@ -30,7 +30,7 @@ none_two a b p q = all_none (a ∷ (b ∷ [])) (p, (q, tt))
 
 pub answered : {A F : Type 0} (o : Option F) (x y : A) → answer o x ≡ Ok y → (o ≡ None) × (x ≡ y)
 answered None x y e = (refl, cc)
-answered (Some f) x y e = let z : ◌≡◌ {A = ℕ} 0 1 = cc in absurd (omega arith)
+answered (Some f) x y e = cc
 
 pub answers : {A F : Type 0} (o : Option F) (x y : A) → o ≡ None → x ≡ y → answer o x ≡ Ok y
 answers None x y e h = ap Ok h
@@ -42,15 +42,15 @@ ok_fault (Err f) e = some_none e
 
 pub fault_ok : {A F : Type 0} (r : Result A F) (x : A) → r ≡ Ok x → fault_in r ≡ None
 fault_ok (Ok y) x e = refl
-fault_ok (Err f) x e = let z : ◌≡◌ {A = ℕ} 0 1 = cc in absurd (omega arith)
+fault_ok (Err f) x e = cc
 
 pub at_ok : {A : Type 0} (f : Field) (r : Result A Flaw) (x : A) → at_field f r ≡ Ok x → r ≡ Ok x
-at_ok f (Ok y) x e = let is : y ≡ x = cc in ap Ok is
-at_ok f (Err h) x e = let z : ◌≡◌ {A = ℕ} 0 1 = cc in absurd (omega arith)
+at_ok f (Ok y) x e = cc
+at_ok f (Err h) x e = cc
 
 pub ok_at : {A : Type 0} (f : Field) (r : Result A Flaw) (x : A) → r ≡ Ok x → at_field f r ≡ Ok x
-ok_at f (Ok y) x e = let is : y ≡ x = cc in ap Ok is
-ok_at f (Err h) x e = let z : ◌≡◌ {A = ℕ} 0 1 = cc in absurd (omega arith)
+ok_at f (Ok y) x e = cc
+ok_at f (Err h) x e = cc
 
 pub no_fault : (n : ℕ) (o : Option Fault) → in_row n o ≡ None → o ≡ None
 no_fault n None e = refl
@@ -65,4 +65,4 @@ unless_true true f e = refl
 unless_true false f e = some_none e
 
 pub true_unless : {F : Type 0} (b : Bool) (f : F) → b ≡ true → unless b f ≡ None
-true_unless b f e = subst (λ b. unless b f ≡ None) (sym e) refl
+true_unless b f e = rw e

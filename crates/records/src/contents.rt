@@ -14,10 +14,7 @@ pub fn content_in<'a>(field: &Field, row: &'a [u8; 750]) -> Content<'a>
     ensures place { LiesAt (row.entry.ref_ptr.0, field.now.start - 1 + row.entry.ref_ptr.1) result }
     ensures front { FrontOf (part (field_of field.now) row.now) result }
 {
-    match field.read(0, row) {
-        Ok(content) => content,
-        Err(_) => Content::Fixed,
-    }
+    field.read(0, row).unwrap_or(Content::Fixed)
 }
 
 // The number in a field, or 0.

@@ -6,6 +6,7 @@ ghost use Rattle.records.specs.Worked.{worked_of};
 use fields::field::Working;
 
 // One value of an entry. A text, a word or long digits lie in the pool of bytes beside the values.
+// They go by place and length, not as a slice: whoever hands in one past the pool is told so by the table of refusals (31).
 #[derive(Clone, Copy, PartialEq, Eq, Debug)]
 pub enum Value {
     Number(u64),
@@ -13,6 +14,7 @@ pub enum Value {
 }
 
 // A kind, by its mark, and one value for each of its fields that is not constant, blank or worked, in order.
+// The mark is any byte, and no enum: one that is no kind's of the book is refused.
 #[derive(Clone, Copy)]
 pub struct Entry<'a, 'b> {
     pub mark: u8,

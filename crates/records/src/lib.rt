@@ -7,6 +7,7 @@ mod entries;
 mod judging;
 mod kinds;
 mod laws;
+mod parted;
 
 pub use contents::{content_in, is_filled_in, number_in, text_in};
 pub use entries::{Entry, Value, Worked};

@@ -15,20 +15,30 @@ pub struct Printed {
 #[derive(Clone, Copy)]
 pub struct Change(pub usize, pub &'static [u8]);
 
-// A printed row of the same book, by its place in the table, with changes; then the refusal's number, 0 for none, and its position.
+// What a refusal tells: its number and its two values.
 #[derive(Clone, Copy)]
-pub struct Judged(pub usize, pub &'static [Change], pub u8, pub usize);
+pub struct Told {
+    pub number: u8,
+    pub first: usize,
+    pub second: usize,
+}
 
-// An entry, its row number, and the refusal's number and two values.
+// A printed row of the same book, by its place in the table, with changes, as row 4; and what it is refused with, if it is.
+#[derive(Clone, Copy)]
+pub struct Judged {
+    pub base: usize,
+    pub changes: &'static [Change],
+    pub told: Option<Told>,
+}
+
+// An entry, its row number, and what it is refused with.
 #[derive(Clone, Copy)]
 pub struct Refused {
     pub mark: u8,
     pub values: &'static [Value],
     pub pool: &'static [u8],
     pub row_number: u64,
-    pub number: u8,
-    pub first: usize,
-    pub second: usize,
+    pub told: Told,
 }
 
 #[rattlefmt::skip]
@@ -59,155 +69,155 @@ pub static PRINTED_RECURRING: [Printed; 3] = [
 #[rattlefmt::skip]
 pub static JUDGED_OUTGOING: [Judged; 42] = [
     // Every kind, and a mark that no book has; in the book of recurrences a 1 is no mark either.
-    Judged(0, &[], 0, 0),
-    Judged(1, &[], 0, 0),
-    Judged(2, &[], 0, 0),
-    Judged(3, &[], 0, 0),
-    Judged(0, &[Change(1, b"X")], 10, 1),
-    Judged(1, &[Change(1, b"X")], 10, 1),
-    Judged(2, &[Change(1, b"X")], 10, 1),
-    Judged(3, &[Change(1, b"X")], 10, 1),
-    Judged(0, &[Change(1, b"3")], 10, 1),
+    Judged { base: 0, changes: &[], told: None },
+    Judged { base: 1, changes: &[], told: None },
+    Judged { base: 2, changes: &[], told: None },
+    Judged { base: 3, changes: &[], told: None },
+    Judged { base: 0, changes: &[Change(1, b"X")], told: Some(Told { number: 10, first: 4, second: 1 }) },
+    Judged { base: 1, changes: &[Change(1, b"X")], told: Some(Told { number: 10, first: 4, second: 1 }) },
+    Judged { base: 2, changes: &[Change(1, b"X")], told: Some(Told { number: 10, first: 4, second: 1 }) },
+    Judged { base: 3, changes: &[Change(1, b"X")], told: Some(Told { number: 10, first: 4, second: 1 }) },
+    Judged { base: 0, changes: &[Change(1, b"3")], told: Some(Told { number: 10, first: 4, second: 1 }) },
     // Charges: a dynamic one has an identifier.
-    Judged(1, &[Change(126, b"X                                  ")], 0, 0),
-    Judged(1, &[Change(126, b"                                   ")], 15, 126),
+    Judged { base: 1, changes: &[Change(126, b"X                                  ")], told: None },
+    Judged { base: 1, changes: &[Change(126, b"                                   ")], told: Some(Told { number: 15, first: 4, second: 126 }) },
     // It has an original value.
-    Judged(1, &[Change(185, b"00000000000000001"), Change(202, b"00000000000000000"), Change(219, b"00000000000000000"), Change(236, b"00000000000000000")], 0, 0),
-    Judged(1, &[Change(185, b"00000000000000000"), Change(202, b"00000000000000000"), Change(219, b"00000000000000000"), Change(236, b"00000000000000000")], 15, 185),
+    Judged { base: 1, changes: &[Change(185, b"00000000000000001"), Change(202, b"00000000000000000"), Change(219, b"00000000000000000"), Change(236, b"00000000000000000")], told: None },
+    Judged { base: 1, changes: &[Change(185, b"00000000000000000"), Change(202, b"00000000000000000"), Change(219, b"00000000000000000"), Change(236, b"00000000000000000")], told: Some(Told { number: 15, first: 4, second: 185 }) },
     // Only dynamic charges are deleted.
-    Judged(1, &[Change(124, b"02")], 0, 0),
-    Judged(1, &[Change(123, b"1"), Change(124, b"02")], 15, 124),
-    Judged(1, &[Change(123, b"1"), Change(124, b"01")], 0, 0),
+    Judged { base: 1, changes: &[Change(124, b"02")], told: None },
+    Judged { base: 1, changes: &[Change(123, b"1"), Change(124, b"02")], told: Some(Told { number: 15, first: 4, second: 124 }) },
+    Judged { base: 1, changes: &[Change(123, b"1"), Change(124, b"01")], told: None },
     // Only dynamic charges are changed.
-    Judged(1, &[Change(124, b"04")], 0, 0),
-    Judged(1, &[Change(123, b"1"), Change(124, b"04")], 15, 124),
+    Judged { base: 1, changes: &[Change(124, b"04")], told: None },
+    Judged { base: 1, changes: &[Change(123, b"1"), Change(124, b"04")], told: Some(Told { number: 15, first: 4, second: 124 }) },
     // Interest, fine and discount are each at most the original value.
-    Judged(1, &[Change(202, b"00000000000125000")], 0, 0),
-    Judged(1, &[Change(202, b"00000000000125001")], 15, 202),
-    Judged(1, &[Change(219, b"00000000000125000")], 0, 0),
-    Judged(1, &[Change(219, b"00000000000125001")], 15, 219),
-    Judged(1, &[Change(236, b"00000000000125000")], 0, 0),
-    Judged(1, &[Change(236, b"00000000000125001")], 15, 236),
+    Judged { base: 1, changes: &[Change(202, b"00000000000125000")], told: None },
+    Judged { base: 1, changes: &[Change(202, b"00000000000125001")], told: Some(Told { number: 15, first: 4, second: 202 }) },
+    Judged { base: 1, changes: &[Change(219, b"00000000000125000")], told: None },
+    Judged { base: 1, changes: &[Change(219, b"00000000000125001")], told: Some(Told { number: 15, first: 4, second: 219 }) },
+    Judged { base: 1, changes: &[Change(236, b"00000000000125000")], told: None },
+    Judged { base: 1, changes: &[Change(236, b"00000000000125001")], told: Some(Told { number: 15, first: 4, second: 236 }) },
     // A debtor with a number has a name.
-    Judged(1, &[Change(270, b"M                                                                                                                                           ")], 0, 0),
-    Judged(1, &[Change(270, b"                                                                                                                                            ")], 15, 270),
-    Judged(1, &[Change(256, b"00000000000000"), Change(270, b"                                                                                                                                            ")], 0, 0),
+    Judged { base: 1, changes: &[Change(270, b"M                                                                                                                                           ")], told: None },
+    Judged { base: 1, changes: &[Change(270, b"                                                                                                                                            ")], told: Some(Told { number: 15, first: 4, second: 270 }) },
+    Judged { base: 1, changes: &[Change(256, b"00000000000000"), Change(270, b"                                                                                                                                            ")], told: None },
     // A static charge has an identifier of at most 25 bytes, inner blanks counted.
-    Judged(1, &[Change(123, b"1"), Change(126, b"IIIIIIIIIII   JJJJJJJJJJJ          ")], 0, 0),
-    Judged(1, &[Change(123, b"1"), Change(126, b"IIIIIIIIIII    JJJJJJJJJJJ         ")], 15, 126),
-    Judged(1, &[Change(126, b"IIIIIIIIIIIIIIIIIIIIIIIIII         ")], 0, 0),
+    Judged { base: 1, changes: &[Change(123, b"1"), Change(126, b"IIIIIIIIIII   JJJJJJJJJJJ          ")], told: None },
+    Judged { base: 1, changes: &[Change(123, b"1"), Change(126, b"IIIIIIIIIII    JJJJJJJJJJJ         ")], told: Some(Told { number: 15, first: 4, second: 126 }) },
+    Judged { base: 1, changes: &[Change(126, b"IIIIIIIIIIIIIIIIIIIIIIIIII         ")], told: None },
     // Its key and its free text have at most 77 bytes together.
-    Judged(1, &[Change(123, b"1"), Change(46, b"kkkkkkkkk                                                                    "), Change(410, b"tttttttttttttttttttttttttttttttttttttttttttttttttttttttttttttttttttt                                                                        ")], 0, 0),
-    Judged(1, &[Change(123, b"1"), Change(46, b"kkkkkkkkk                                                                    "), Change(410, b"ttttttttttttttttttttttttttttttttttttttttttttttttttttttttttttttttttttt                                                                       ")], 15, 410),
-    Judged(1, &[Change(46, b"kkkkkkkkk                                                                    "), Change(410, b"ttttttttttttttttttttttttttttttttttttttttttttttttttttttttttttttttttttt                                                                       ")], 0, 0),
+    Judged { base: 1, changes: &[Change(123, b"1"), Change(46, b"kkkkkkkkk                                                                    "), Change(410, b"tttttttttttttttttttttttttttttttttttttttttttttttttttttttttttttttttttt                                                                        ")], told: None },
+    Judged { base: 1, changes: &[Change(123, b"1"), Change(46, b"kkkkkkkkk                                                                    "), Change(410, b"ttttttttttttttttttttttttttttttttttttttttttttttttttttttttttttttttttttt                                                                       ")], told: Some(Told { number: 15, first: 4, second: 410 }) },
+    Judged { base: 1, changes: &[Change(46, b"kkkkkkkkk                                                                    "), Change(410, b"ttttttttttttttttttttttttttttttttttttttttttttttttttttttttttttttttttttt                                                                       ")], told: None },
     // The first broken condition counts, and a field before any condition.
-    Judged(1, &[Change(185, b"00000000000000000")], 15, 185),
-    Judged(1, &[Change(126, b"                                   "), Change(185, b"00000000000000000")], 15, 126),
-    Judged(1, &[Change(126, b"                                   "), Change(611, b"X")], 14, 611),
-    Judged(1, &[Change(1, b"X"), Change(126, b"                                   "), Change(611, b"X")], 10, 1),
+    Judged { base: 1, changes: &[Change(185, b"00000000000000000")], told: Some(Told { number: 15, first: 4, second: 185 }) },
+    Judged { base: 1, changes: &[Change(126, b"                                   "), Change(185, b"00000000000000000")], told: Some(Told { number: 15, first: 4, second: 126 }) },
+    Judged { base: 1, changes: &[Change(126, b"                                   "), Change(611, b"X")], told: Some(Told { number: 14, first: 4, second: 611 }) },
+    Judged { base: 1, changes: &[Change(1, b"X"), Change(126, b"                                   "), Change(611, b"X")], told: Some(Told { number: 10, first: 4, second: 1 }) },
     // Faults of fields keep their number and position: a byte, an empty field, a wrong one, a constant.
-    Judged(0, &[Change(30, b"\x00")], 11, 30),
-    Judged(0, &[Change(37, b"00000000000000")], 12, 37),
-    Judged(0, &[Change(35, b"03")], 13, 35),
-    Judged(0, &[Change(743, b"1")], 14, 743),
-    Judged(3, &[Change(713, b"/")], 11, 713),
+    Judged { base: 0, changes: &[Change(30, b"\x00")], told: Some(Told { number: 11, first: 4, second: 30 }) },
+    Judged { base: 0, changes: &[Change(37, b"00000000000000")], told: Some(Told { number: 12, first: 4, second: 37 }) },
+    Judged { base: 0, changes: &[Change(35, b"03")], told: Some(Told { number: 13, first: 4, second: 35 }) },
+    Judged { base: 0, changes: &[Change(743, b"1")], told: Some(Told { number: 14, first: 4, second: 743 }) },
+    Judged { base: 3, changes: &[Change(713, b"/")], told: Some(Told { number: 11, first: 4, second: 713 }) },
 ];
 
 #[rattlefmt::skip]
 pub static JUDGED_RETURNED: [Judged; 20] = [
     // Every kind, and a mark that no book has; in the book of recurrences a 1 is no mark either.
-    Judged(0, &[], 0, 0),
-    Judged(1, &[], 0, 0),
-    Judged(2, &[], 0, 0),
-    Judged(3, &[], 0, 0),
-    Judged(4, &[], 0, 0),
-    Judged(5, &[], 0, 0),
-    Judged(0, &[Change(1, b"X")], 10, 1),
-    Judged(1, &[Change(1, b"X")], 10, 1),
-    Judged(2, &[Change(1, b"X")], 10, 1),
-    Judged(3, &[Change(1, b"X")], 10, 1),
-    Judged(4, &[Change(1, b"X")], 10, 1),
-    Judged(5, &[Change(1, b"X")], 10, 1),
-    Judged(0, &[Change(1, b"A")], 10, 1),
+    Judged { base: 0, changes: &[], told: None },
+    Judged { base: 1, changes: &[], told: None },
+    Judged { base: 2, changes: &[], told: None },
+    Judged { base: 3, changes: &[], told: None },
+    Judged { base: 4, changes: &[], told: None },
+    Judged { base: 5, changes: &[], told: None },
+    Judged { base: 0, changes: &[Change(1, b"X")], told: Some(Told { number: 10, first: 4, second: 1 }) },
+    Judged { base: 1, changes: &[Change(1, b"X")], told: Some(Told { number: 10, first: 4, second: 1 }) },
+    Judged { base: 2, changes: &[Change(1, b"X")], told: Some(Told { number: 10, first: 4, second: 1 }) },
+    Judged { base: 3, changes: &[Change(1, b"X")], told: Some(Told { number: 10, first: 4, second: 1 }) },
+    Judged { base: 4, changes: &[Change(1, b"X")], told: Some(Told { number: 10, first: 4, second: 1 }) },
+    Judged { base: 5, changes: &[Change(1, b"X")], told: Some(Told { number: 10, first: 4, second: 1 }) },
+    Judged { base: 0, changes: &[Change(1, b"A")], told: Some(Told { number: 10, first: 4, second: 1 }) },
     // Faults of fields keep their number and position: a byte, an empty field, a wrong one, a constant.
-    Judged(1, &[Change(285, b"x")], 11, 285),
-    Judged(1, &[Change(142, b"                                   ")], 12, 142),
-    Judged(1, &[Change(631, b"06")], 13, 631),
-    Judged(1, &[Change(744, b"x")], 14, 744),
-    Judged(5, &[Change(745, b"000000")], 0, 0),
+    Judged { base: 1, changes: &[Change(285, b"x")], told: Some(Told { number: 11, first: 4, second: 285 }) },
+    Judged { base: 1, changes: &[Change(142, b"                                   ")], told: Some(Told { number: 12, first: 4, second: 142 }) },
+    Judged { base: 1, changes: &[Change(631, b"06")], told: Some(Told { number: 13, first: 4, second: 631 }) },
+    Judged { base: 1, changes: &[Change(744, b"x")], told: Some(Told { number: 14, first: 4, second: 744 }) },
+    Judged { base: 5, changes: &[Change(745, b"000000")], told: None },
     // The first field by position counts.
-    Judged(3, &[Change(744, b"x"), Change(2, b"                                                                             "), Change(81, b"20230229")], 12, 2),
-    Judged(4, &[Change(744, b"x"), Change(81, b"20230229")], 13, 81),
+    Judged { base: 3, changes: &[Change(744, b"x"), Change(2, b"                                                                             "), Change(81, b"20230229")], told: Some(Told { number: 12, first: 4, second: 2 }) },
+    Judged { base: 4, changes: &[Change(744, b"x"), Change(81, b"20230229")], told: Some(Told { number: 13, first: 4, second: 81 }) },
 ];
 
 #[rattlefmt::skip]
 pub static JUDGED_RECURRING: [Judged; 28] = [
     // Every kind, and a mark that no book has; in the book of recurrences a 1 is no mark either.
-    Judged(0, &[], 0, 0),
-    Judged(1, &[], 0, 0),
-    Judged(2, &[], 0, 0),
-    Judged(0, &[Change(1, b"X")], 10, 1),
-    Judged(1, &[Change(1, b"X")], 10, 1),
-    Judged(2, &[Change(1, b"X")], 10, 1),
-    Judged(1, &[Change(1, b"1")], 10, 1),
+    Judged { base: 0, changes: &[], told: None },
+    Judged { base: 1, changes: &[], told: None },
+    Judged { base: 2, changes: &[], told: None },
+    Judged { base: 0, changes: &[Change(1, b"X")], told: Some(Told { number: 10, first: 4, second: 1 }) },
+    Judged { base: 1, changes: &[Change(1, b"X")], told: Some(Told { number: 10, first: 4, second: 1 }) },
+    Judged { base: 2, changes: &[Change(1, b"X")], told: Some(Told { number: 10, first: 4, second: 1 }) },
+    Judged { base: 1, changes: &[Change(1, b"1")], told: Some(Told { number: 10, first: 4, second: 1 }) },
     // Recurrences: one that is cancelled or changed has an identifier.
-    Judged(1, &[Change(2, b"02"), Change(321, b"R                            ")], 0, 0),
-    Judged(1, &[Change(2, b"02"), Change(321, b"                             ")], 15, 321),
-    Judged(1, &[Change(2, b"03"), Change(321, b"R                            ")], 0, 0),
-    Judged(1, &[Change(2, b"03"), Change(321, b"                             ")], 15, 321),
-    Judged(1, &[Change(321, b"                             ")], 0, 0),
+    Judged { base: 1, changes: &[Change(2, b"02"), Change(321, b"R                            ")], told: None },
+    Judged { base: 1, changes: &[Change(2, b"02"), Change(321, b"                             ")], told: Some(Told { number: 15, first: 4, second: 321 }) },
+    Judged { base: 1, changes: &[Change(2, b"03"), Change(321, b"R                            ")], told: None },
+    Judged { base: 1, changes: &[Change(2, b"03"), Change(321, b"                             ")], told: Some(Told { number: 15, first: 4, second: 321 }) },
+    Judged { base: 1, changes: &[Change(321, b"                             ")], told: None },
     // The journey that begins with a payment has a TXID.
-    Judged(1, &[Change(4, b"3"), Change(161, b"T                                  ")], 0, 0),
-    Judged(1, &[Change(4, b"3"), Change(161, b"                                   ")], 15, 161),
-    Judged(1, &[Change(161, b"                                   ")], 0, 0),
+    Judged { base: 1, changes: &[Change(4, b"3"), Change(161, b"T                                  ")], told: None },
+    Judged { base: 1, changes: &[Change(4, b"3"), Change(161, b"                                   ")], told: Some(Told { number: 15, first: 4, second: 161 }) },
+    Judged { base: 1, changes: &[Change(161, b"                                   ")], told: None },
     // With an end there is a final date, and without one there is none.
-    Judged(1, &[Change(267, b"1"), Change(276, b"29991231")], 0, 0),
-    Judged(1, &[Change(267, b"1"), Change(276, b"00000000")], 15, 276),
-    Judged(1, &[Change(267, b"2"), Change(276, b"00000000")], 0, 0),
-    Judged(1, &[Change(267, b"2")], 15, 276),
+    Judged { base: 1, changes: &[Change(267, b"1"), Change(276, b"29991231")], told: None },
+    Judged { base: 1, changes: &[Change(267, b"1"), Change(276, b"00000000")], told: Some(Told { number: 15, first: 4, second: 276 }) },
+    Judged { base: 1, changes: &[Change(267, b"2"), Change(276, b"00000000")], told: None },
+    Judged { base: 1, changes: &[Change(267, b"2")], told: Some(Told { number: 15, first: 4, second: 276 }) },
     // A fixed value is not 0, nor is a minimum that there is.
-    Judged(1, &[Change(285, b"00000000000000001")], 0, 0),
-    Judged(1, &[Change(285, b"00000000000000000")], 15, 285),
-    Judged(1, &[Change(284, b"2"), Change(285, b"00000000000000000")], 0, 0),
-    Judged(1, &[Change(303, b"00000000000000001")], 0, 0),
-    Judged(1, &[Change(303, b"00000000000000000")], 15, 303),
-    Judged(1, &[Change(302, b"2"), Change(303, b"00000000000000000")], 0, 0),
-    Judged(1, &[Change(276, b"00000000"), Change(285, b"00000000000000000"), Change(303, b"00000000000000000")], 15, 276),
+    Judged { base: 1, changes: &[Change(285, b"00000000000000001")], told: None },
+    Judged { base: 1, changes: &[Change(285, b"00000000000000000")], told: Some(Told { number: 15, first: 4, second: 285 }) },
+    Judged { base: 1, changes: &[Change(284, b"2"), Change(285, b"00000000000000000")], told: None },
+    Judged { base: 1, changes: &[Change(303, b"00000000000000001")], told: None },
+    Judged { base: 1, changes: &[Change(303, b"00000000000000000")], told: Some(Told { number: 15, first: 4, second: 303 }) },
+    Judged { base: 1, changes: &[Change(302, b"2"), Change(303, b"00000000000000000")], told: None },
+    Judged { base: 1, changes: &[Change(276, b"00000000"), Change(285, b"00000000000000000"), Change(303, b"00000000000000000")], told: Some(Told { number: 15, first: 4, second: 276 }) },
     // Faults of fields keep their number and position: a byte, an empty field, a wrong one, a constant.
-    Judged(0, &[Change(12, b"P I X")], 14, 13),
-    Judged(2, &[Change(745, b"00000 ")], 11, 750),
+    Judged { base: 0, changes: &[Change(12, b"P I X")], told: Some(Told { number: 14, first: 4, second: 13 }) },
+    Judged { base: 2, changes: &[Change(745, b"00000 ")], told: Some(Told { number: 11, first: 4, second: 750 }) },
 ];
 
 #[rattlefmt::skip]
 pub static REFUSED: [Refused; 22] = [
     // No such mark, whatever the values.
-    Refused { mark: b'7', values: &[Value::Text { place: 0, length: 7 }, Value::Number(1), Value::Number(37001), Value::Text { place: 7, length: 3 }, Value::Text { place: 10, length: 7 }, Value::Text { place: 17, length: 4 }, Value::Text { place: 21, length: 7 }, Value::Number(20240229), Value::Text { place: 28, length: 8 }, Value::Text { place: 36, length: 8 }], pool: b"TEXT 27A51TEXT 55CACCTEXT 79TEXT 164TEXT 194", row_number: 4, number: 10, first: 4, second: 1 },
-    Refused { mark: b'7', values: &[], pool: b"", row_number: 4, number: 10, first: 4, second: 1 },
+    Refused { mark: b'7', values: &[Value::Text { place: 0, length: 7 }, Value::Number(1), Value::Number(37001), Value::Text { place: 7, length: 3 }, Value::Text { place: 10, length: 7 }, Value::Text { place: 17, length: 4 }, Value::Text { place: 21, length: 7 }, Value::Number(20240229), Value::Text { place: 28, length: 8 }, Value::Text { place: 36, length: 8 }], pool: b"TEXT 27A51TEXT 55CACCTEXT 79TEXT 164TEXT 194", row_number: 4, told: Told { number: 10, first: 4, second: 1 } },
+    Refused { mark: b'7', values: &[], pool: b"", row_number: 4, told: Told { number: 10, first: 4, second: 1 } },
     // Too few, none, too many.
-    Refused { mark: b'0', values: &[Value::Text { place: 0, length: 7 }, Value::Number(1), Value::Number(37001), Value::Text { place: 7, length: 3 }, Value::Text { place: 10, length: 7 }, Value::Text { place: 17, length: 4 }, Value::Text { place: 21, length: 7 }, Value::Number(20240229), Value::Text { place: 28, length: 8 }], pool: b"TEXT 27A51TEXT 55CACCTEXT 79TEXT 164TEXT 194", row_number: 4, number: 31, first: 10, second: 0 },
-    Refused { mark: b'0', values: &[], pool: b"", row_number: 4, number: 31, first: 1, second: 0 },
-    Refused { mark: b'0', values: &[Value::Text { place: 0, length: 7 }, Value::Number(1), Value::Number(37001), Value::Text { place: 7, length: 3 }, Value::Text { place: 10, length: 7 }, Value::Text { place: 17, length: 4 }, Value::Text { place: 21, length: 7 }, Value::Number(20240229), Value::Text { place: 28, length: 8 }, Value::Text { place: 36, length: 8 }, Value::Number(1)], pool: b"TEXT 27A51TEXT 55CACCTEXT 79TEXT 164TEXT 194", row_number: 4, number: 31, first: 11, second: 0 },
-    Refused { mark: b'9', values: &[Value::Number(1)], pool: b"", row_number: 4, number: 31, first: 1, second: 0 },
+    Refused { mark: b'0', values: &[Value::Text { place: 0, length: 7 }, Value::Number(1), Value::Number(37001), Value::Text { place: 7, length: 3 }, Value::Text { place: 10, length: 7 }, Value::Text { place: 17, length: 4 }, Value::Text { place: 21, length: 7 }, Value::Number(20240229), Value::Text { place: 28, length: 8 }], pool: b"TEXT 27A51TEXT 55CACCTEXT 79TEXT 164TEXT 194", row_number: 4, told: Told { number: 31, first: 10, second: 0 } },
+    Refused { mark: b'0', values: &[], pool: b"", row_number: 4, told: Told { number: 31, first: 1, second: 0 } },
+    Refused { mark: b'0', values: &[Value::Text { place: 0, length: 7 }, Value::Number(1), Value::Number(37001), Value::Text { place: 7, length: 3 }, Value::Text { place: 10, length: 7 }, Value::Text { place: 17, length: 4 }, Value::Text { place: 21, length: 7 }, Value::Number(20240229), Value::Text { place: 28, length: 8 }, Value::Text { place: 36, length: 8 }, Value::Number(1)], pool: b"TEXT 27A51TEXT 55CACCTEXT 79TEXT 164TEXT 194", row_number: 4, told: Told { number: 31, first: 11, second: 0 } },
+    Refused { mark: b'9', values: &[Value::Number(1)], pool: b"", row_number: 4, told: Told { number: 31, first: 1, second: 0 } },
     // A wrong count before a value of another sort.
-    Refused { mark: b'0', values: &[Value::Number(1), Value::Number(1), Value::Number(37001), Value::Text { place: 7, length: 3 }, Value::Text { place: 10, length: 7 }, Value::Text { place: 17, length: 4 }, Value::Text { place: 21, length: 7 }, Value::Number(20240229), Value::Text { place: 28, length: 8 }], pool: b"TEXT 27A51TEXT 55CACCTEXT 79TEXT 164TEXT 194", row_number: 4, number: 31, first: 10, second: 0 },
+    Refused { mark: b'0', values: &[Value::Number(1), Value::Number(1), Value::Number(37001), Value::Text { place: 7, length: 3 }, Value::Text { place: 10, length: 7 }, Value::Text { place: 17, length: 4 }, Value::Text { place: 21, length: 7 }, Value::Number(20240229), Value::Text { place: 28, length: 8 }], pool: b"TEXT 27A51TEXT 55CACCTEXT 79TEXT 164TEXT 194", row_number: 4, told: Told { number: 31, first: 10, second: 0 } },
     // Another sort: the first of them.
-    Refused { mark: b'0', values: &[Value::Number(1), Value::Number(1), Value::Number(37001), Value::Text { place: 7, length: 3 }, Value::Text { place: 10, length: 7 }, Value::Text { place: 17, length: 4 }, Value::Text { place: 21, length: 7 }, Value::Number(20240229), Value::Text { place: 28, length: 8 }, Value::Text { place: 36, length: 8 }], pool: b"TEXT 27A51TEXT 55CACCTEXT 79TEXT 164TEXT 194", row_number: 4, number: 31, first: 1, second: 0 },
-    Refused { mark: b'0', values: &[Value::Text { place: 0, length: 7 }, Value::Text { place: 0, length: 0 }, Value::Number(37001), Value::Text { place: 7, length: 3 }, Value::Text { place: 10, length: 7 }, Value::Text { place: 17, length: 4 }, Value::Text { place: 21, length: 7 }, Value::Number(20240229), Value::Text { place: 28, length: 8 }, Value::Text { place: 36, length: 8 }], pool: b"TEXT 27A51TEXT 55CACCTEXT 79TEXT 164TEXT 194", row_number: 4, number: 31, first: 2, second: 0 },
-    Refused { mark: b'0', values: &[Value::Text { place: 0, length: 7 }, Value::Number(1), Value::Number(37001), Value::Text { place: 7, length: 3 }, Value::Text { place: 10, length: 7 }, Value::Text { place: 17, length: 4 }, Value::Text { place: 21, length: 7 }, Value::Number(20240229), Value::Text { place: 28, length: 8 }, Value::Number(0)], pool: b"TEXT 27A51TEXT 55CACCTEXT 79TEXT 164TEXT 194", row_number: 4, number: 31, first: 10, second: 0 },
+    Refused { mark: b'0', values: &[Value::Number(1), Value::Number(1), Value::Number(37001), Value::Text { place: 7, length: 3 }, Value::Text { place: 10, length: 7 }, Value::Text { place: 17, length: 4 }, Value::Text { place: 21, length: 7 }, Value::Number(20240229), Value::Text { place: 28, length: 8 }, Value::Text { place: 36, length: 8 }], pool: b"TEXT 27A51TEXT 55CACCTEXT 79TEXT 164TEXT 194", row_number: 4, told: Told { number: 31, first: 1, second: 0 } },
+    Refused { mark: b'0', values: &[Value::Text { place: 0, length: 7 }, Value::Text { place: 0, length: 0 }, Value::Number(37001), Value::Text { place: 7, length: 3 }, Value::Text { place: 10, length: 7 }, Value::Text { place: 17, length: 4 }, Value::Text { place: 21, length: 7 }, Value::Number(20240229), Value::Text { place: 28, length: 8 }, Value::Text { place: 36, length: 8 }], pool: b"TEXT 27A51TEXT 55CACCTEXT 79TEXT 164TEXT 194", row_number: 4, told: Told { number: 31, first: 2, second: 0 } },
+    Refused { mark: b'0', values: &[Value::Text { place: 0, length: 7 }, Value::Number(1), Value::Number(37001), Value::Text { place: 7, length: 3 }, Value::Text { place: 10, length: 7 }, Value::Text { place: 17, length: 4 }, Value::Text { place: 21, length: 7 }, Value::Number(20240229), Value::Text { place: 28, length: 8 }, Value::Number(0)], pool: b"TEXT 27A51TEXT 55CACCTEXT 79TEXT 164TEXT 194", row_number: 4, told: Told { number: 31, first: 10, second: 0 } },
     // Past the pool by one, far past it, and past it by a sum that would wrap.
-    Refused { mark: b'0', values: &[Value::Text { place: 37, length: 8 }, Value::Number(1), Value::Number(37001), Value::Text { place: 7, length: 3 }, Value::Text { place: 10, length: 7 }, Value::Text { place: 17, length: 4 }, Value::Text { place: 21, length: 7 }, Value::Number(20240229), Value::Text { place: 28, length: 8 }, Value::Text { place: 36, length: 8 }], pool: b"TEXT 27A51TEXT 55CACCTEXT 79TEXT 164TEXT 194", row_number: 4, number: 31, first: 1, second: 0 },
-    Refused { mark: b'0', values: &[Value::Text { place: 0, length: 7 }, Value::Number(1), Value::Number(37001), Value::Text { place: 7, length: 3 }, Value::Text { place: 45, length: 0 }, Value::Text { place: 17, length: 4 }, Value::Text { place: 21, length: 7 }, Value::Number(20240229), Value::Text { place: 28, length: 8 }, Value::Text { place: 36, length: 8 }], pool: b"TEXT 27A51TEXT 55CACCTEXT 79TEXT 164TEXT 194", row_number: 4, number: 31, first: 5, second: 0 },
-    Refused { mark: b'0', values: &[Value::Text { place: 0, length: 7 }, Value::Number(1), Value::Number(37001), Value::Text { place: 18446744073709551615, length: 1 }, Value::Text { place: 10, length: 7 }, Value::Text { place: 17, length: 4 }, Value::Text { place: 21, length: 7 }, Value::Number(20240229), Value::Text { place: 28, length: 8 }, Value::Text { place: 36, length: 8 }], pool: b"TEXT 27A51TEXT 55CACCTEXT 79TEXT 164TEXT 194", row_number: 4, number: 31, first: 4, second: 0 },
-    Refused { mark: b'0', values: &[Value::Text { place: 0, length: 7 }, Value::Number(1), Value::Number(37001), Value::Text { place: 1, length: 18446744073709551615 }, Value::Text { place: 10, length: 7 }, Value::Text { place: 17, length: 4 }, Value::Text { place: 21, length: 7 }, Value::Number(20240229), Value::Text { place: 28, length: 8 }, Value::Text { place: 36, length: 8 }], pool: b"TEXT 27A51TEXT 55CACCTEXT 79TEXT 164TEXT 194", row_number: 4, number: 31, first: 4, second: 0 },
+    Refused { mark: b'0', values: &[Value::Text { place: 37, length: 8 }, Value::Number(1), Value::Number(37001), Value::Text { place: 7, length: 3 }, Value::Text { place: 10, length: 7 }, Value::Text { place: 17, length: 4 }, Value::Text { place: 21, length: 7 }, Value::Number(20240229), Value::Text { place: 28, length: 8 }, Value::Text { place: 36, length: 8 }], pool: b"TEXT 27A51TEXT 55CACCTEXT 79TEXT 164TEXT 194", row_number: 4, told: Told { number: 31, first: 1, second: 0 } },
+    Refused { mark: b'0', values: &[Value::Text { place: 0, length: 7 }, Value::Number(1), Value::Number(37001), Value::Text { place: 7, length: 3 }, Value::Text { place: 45, length: 0 }, Value::Text { place: 17, length: 4 }, Value::Text { place: 21, length: 7 }, Value::Number(20240229), Value::Text { place: 28, length: 8 }, Value::Text { place: 36, length: 8 }], pool: b"TEXT 27A51TEXT 55CACCTEXT 79TEXT 164TEXT 194", row_number: 4, told: Told { number: 31, first: 5, second: 0 } },
+    Refused { mark: b'0', values: &[Value::Text { place: 0, length: 7 }, Value::Number(1), Value::Number(37001), Value::Text { place: 18446744073709551615, length: 1 }, Value::Text { place: 10, length: 7 }, Value::Text { place: 17, length: 4 }, Value::Text { place: 21, length: 7 }, Value::Number(20240229), Value::Text { place: 28, length: 8 }, Value::Text { place: 36, length: 8 }], pool: b"TEXT 27A51TEXT 55CACCTEXT 79TEXT 164TEXT 194", row_number: 4, told: Told { number: 31, first: 4, second: 0 } },
+    Refused { mark: b'0', values: &[Value::Text { place: 0, length: 7 }, Value::Number(1), Value::Number(37001), Value::Text { place: 1, length: 18446744073709551615 }, Value::Text { place: 10, length: 7 }, Value::Text { place: 17, length: 4 }, Value::Text { place: 21, length: 7 }, Value::Number(20240229), Value::Text { place: 28, length: 8 }, Value::Text { place: 36, length: 8 }], pool: b"TEXT 27A51TEXT 55CACCTEXT 79TEXT 164TEXT 194", row_number: 4, told: Told { number: 31, first: 4, second: 0 } },
     // A value before any field.
-    Refused { mark: b'0', values: &[Value::Text { place: 0, length: 7 }, Value::Number(1), Value::Number(100000000000000), Value::Text { place: 7, length: 3 }, Value::Text { place: 10, length: 7 }, Value::Text { place: 17, length: 4 }, Value::Text { place: 21, length: 7 }, Value::Number(20240229), Value::Text { place: 28, length: 8 }, Value::Number(1)], pool: b"TEXT 27A51TEXT 55CACCTEXT 79TEXT 164TEXT 194", row_number: 4, number: 31, first: 10, second: 0 },
+    Refused { mark: b'0', values: &[Value::Text { place: 0, length: 7 }, Value::Number(1), Value::Number(100000000000000), Value::Text { place: 7, length: 3 }, Value::Text { place: 10, length: 7 }, Value::Text { place: 17, length: 4 }, Value::Text { place: 21, length: 7 }, Value::Number(20240229), Value::Text { place: 28, length: 8 }, Value::Number(1)], pool: b"TEXT 27A51TEXT 55CACCTEXT 79TEXT 164TEXT 194", row_number: 4, told: Told { number: 31, first: 10, second: 0 } },
     // Fields: empty, too large, too long, no such word, a bad byte.
-    Refused { mark: b'0', values: &[Value::Text { place: 0, length: 7 }, Value::Number(1), Value::Number(0), Value::Text { place: 7, length: 3 }, Value::Text { place: 10, length: 7 }, Value::Text { place: 17, length: 4 }, Value::Text { place: 21, length: 7 }, Value::Number(20240229), Value::Text { place: 28, length: 8 }, Value::Text { place: 36, length: 8 }], pool: b"TEXT 27A51TEXT 55CACCTEXT 79TEXT 164TEXT 194", row_number: 4, number: 12, first: 4, second: 37 },
-    Refused { mark: b'0', values: &[Value::Text { place: 0, length: 7 }, Value::Number(1), Value::Number(100000000000000), Value::Text { place: 7, length: 3 }, Value::Text { place: 10, length: 7 }, Value::Text { place: 17, length: 4 }, Value::Text { place: 21, length: 7 }, Value::Number(20240229), Value::Text { place: 28, length: 8 }, Value::Text { place: 36, length: 8 }], pool: b"TEXT 27A51TEXT 55CACCTEXT 79TEXT 164TEXT 194", row_number: 4, number: 13, first: 4, second: 37 },
-    Refused { mark: b'0', values: &[Value::Text { place: 0, length: 9 }, Value::Number(1), Value::Number(37001), Value::Text { place: 7, length: 3 }, Value::Text { place: 10, length: 7 }, Value::Text { place: 17, length: 4 }, Value::Text { place: 21, length: 7 }, Value::Number(20240229), Value::Text { place: 28, length: 8 }, Value::Text { place: 36, length: 8 }], pool: b"TEXT 27A51TEXT 55CACCTEXT 79TEXT 164TEXT 194", row_number: 4, number: 13, first: 4, second: 27 },
-    Refused { mark: b'0', values: &[Value::Text { place: 0, length: 7 }, Value::Number(1), Value::Number(37001), Value::Text { place: 7, length: 3 }, Value::Text { place: 10, length: 7 }, Value::Text { place: 0, length: 4 }, Value::Text { place: 21, length: 7 }, Value::Number(20240229), Value::Text { place: 28, length: 8 }, Value::Text { place: 36, length: 8 }], pool: b"TEXT 27A51TEXT 55CACCTEXT 79TEXT 164TEXT 194", row_number: 4, number: 13, first: 4, second: 75 },
-    Refused { mark: b'0', values: &[Value::Text { place: 0, length: 7 }, Value::Number(1), Value::Number(37001), Value::Text { place: 7, length: 3 }, Value::Text { place: 10, length: 7 }, Value::Text { place: 17, length: 4 }, Value::Text { place: 21, length: 7 }, Value::Number(20240229), Value::Text { place: 44, length: 4 }, Value::Text { place: 36, length: 8 }], pool: b"TEXT 27A51TEXT 55CACCTEXT 79TEXT 164TEXT 194A\nBC", row_number: 4, number: 11, first: 4, second: 165 },
+    Refused { mark: b'0', values: &[Value::Text { place: 0, length: 7 }, Value::Number(1), Value::Number(0), Value::Text { place: 7, length: 3 }, Value::Text { place: 10, length: 7 }, Value::Text { place: 17, length: 4 }, Value::Text { place: 21, length: 7 }, Value::Number(20240229), Value::Text { place: 28, length: 8 }, Value::Text { place: 36, length: 8 }], pool: b"TEXT 27A51TEXT 55CACCTEXT 79TEXT 164TEXT 194", row_number: 4, told: Told { number: 12, first: 4, second: 37 } },
+    Refused { mark: b'0', values: &[Value::Text { place: 0, length: 7 }, Value::Number(1), Value::Number(100000000000000), Value::Text { place: 7, length: 3 }, Value::Text { place: 10, length: 7 }, Value::Text { place: 17, length: 4 }, Value::Text { place: 21, length: 7 }, Value::Number(20240229), Value::Text { place: 28, length: 8 }, Value::Text { place: 36, length: 8 }], pool: b"TEXT 27A51TEXT 55CACCTEXT 79TEXT 164TEXT 194", row_number: 4, told: Told { number: 13, first: 4, second: 37 } },
+    Refused { mark: b'0', values: &[Value::Text { place: 0, length: 9 }, Value::Number(1), Value::Number(37001), Value::Text { place: 7, length: 3 }, Value::Text { place: 10, length: 7 }, Value::Text { place: 17, length: 4 }, Value::Text { place: 21, length: 7 }, Value::Number(20240229), Value::Text { place: 28, length: 8 }, Value::Text { place: 36, length: 8 }], pool: b"TEXT 27A51TEXT 55CACCTEXT 79TEXT 164TEXT 194", row_number: 4, told: Told { number: 13, first: 4, second: 27 } },
+    Refused { mark: b'0', values: &[Value::Text { place: 0, length: 7 }, Value::Number(1), Value::Number(37001), Value::Text { place: 7, length: 3 }, Value::Text { place: 10, length: 7 }, Value::Text { place: 0, length: 4 }, Value::Text { place: 21, length: 7 }, Value::Number(20240229), Value::Text { place: 28, length: 8 }, Value::Text { place: 36, length: 8 }], pool: b"TEXT 27A51TEXT 55CACCTEXT 79TEXT 164TEXT 194", row_number: 4, told: Told { number: 13, first: 4, second: 75 } },
+    Refused { mark: b'0', values: &[Value::Text { place: 0, length: 7 }, Value::Number(1), Value::Number(37001), Value::Text { place: 7, length: 3 }, Value::Text { place: 10, length: 7 }, Value::Text { place: 17, length: 4 }, Value::Text { place: 21, length: 7 }, Value::Number(20240229), Value::Text { place: 44, length: 4 }, Value::Text { place: 36, length: 8 }], pool: b"TEXT 27A51TEXT 55CACCTEXT 79TEXT 164TEXT 194A\nBC", row_number: 4, told: Told { number: 11, first: 4, second: 165 } },
     // A worked number that is too wide, after every field before it.
-    Refused { mark: b'0', values: &[Value::Text { place: 0, length: 7 }, Value::Number(1), Value::Number(37001), Value::Text { place: 7, length: 3 }, Value::Text { place: 10, length: 7 }, Value::Text { place: 17, length: 4 }, Value::Text { place: 21, length: 7 }, Value::Number(20240229), Value::Text { place: 28, length: 8 }, Value::Text { place: 36, length: 8 }], pool: b"TEXT 27A51TEXT 55CACCTEXT 79TEXT 164TEXT 194", row_number: 1000000, number: 13, first: 4, second: 745 },
-    Refused { mark: b'0', values: &[Value::Text { place: 0, length: 7 }, Value::Number(1), Value::Number(0), Value::Text { place: 7, length: 3 }, Value::Text { place: 10, length: 7 }, Value::Text { place: 17, length: 4 }, Value::Text { place: 21, length: 7 }, Value::Number(20240229), Value::Text { place: 28, length: 8 }, Value::Text { place: 36, length: 8 }], pool: b"TEXT 27A51TEXT 55CACCTEXT 79TEXT 164TEXT 194", row_number: 1000000, number: 12, first: 4, second: 37 },
+    Refused { mark: b'0', values: &[Value::Text { place: 0, length: 7 }, Value::Number(1), Value::Number(37001), Value::Text { place: 7, length: 3 }, Value::Text { place: 10, length: 7 }, Value::Text { place: 17, length: 4 }, Value::Text { place: 21, length: 7 }, Value::Number(20240229), Value::Text { place: 28, length: 8 }, Value::Text { place: 36, length: 8 }], pool: b"TEXT 27A51TEXT 55CACCTEXT 79TEXT 164TEXT 194", row_number: 1000000, told: Told { number: 13, first: 4, second: 745 } },
+    Refused { mark: b'0', values: &[Value::Text { place: 0, length: 7 }, Value::Number(1), Value::Number(0), Value::Text { place: 7, length: 3 }, Value::Text { place: 10, length: 7 }, Value::Text { place: 17, length: 4 }, Value::Text { place: 21, length: 7 }, Value::Number(20240229), Value::Text { place: 28, length: 8 }, Value::Text { place: 36, length: 8 }], pool: b"TEXT 27A51TEXT 55CACCTEXT 79TEXT 164TEXT 194", row_number: 1000000, told: Told { number: 12, first: 4, second: 37 } },
 ];

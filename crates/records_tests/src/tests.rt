@@ -1,7 +1,7 @@
 // Each case of the tables.
 use crate::cases::{
     Change, JUDGED_OUTGOING, JUDGED_RECURRING, JUDGED_RETURNED, Judged, PRINTED_OUTGOING,
-    PRINTED_RECURRING, PRINTED_RETURNED, Printed, REFUSED, Refused,
+    PRINTED_RECURRING, PRINTED_RETURNED, Printed, REFUSED, Refused, Told,
 };
 use entries::print;
 use layouts::book::Book;
@@ -22,20 +22,19 @@ const WORKED: Worked = Worked {
     count: 123_456,
 };
 
-fn check_refusal(
-    rt: &impl Abort,
-    refusal: Refusal,
-    number: u8,
-    first: usize,
-    second: usize,
-) -> Result<(), Fail> {
+fn check_refusal(rt: &impl Abort, refusal: Refusal, told: Told) -> Result<(), Fail> {
+    let Told {
+        number,
+        first,
+        second,
+    } = told;
     assert_eq!(rt; refusal.number, number);
     assert_eq!(rt; refusal.first, first);
     assert_eq!(rt; refusal.second, second);
     assert!(rt;
         match refusal.layer {
-            Layer::Row => number == 10 || number == 15,
-            Layer::Field => 11 <= number && number <= 14,
+            Layer::Row => matches!(number, 10 | 15),
+            Layer::Field => matches!(number, 11..=14),
             Layer::Draft => number == 31,
             _ => false,
         }
@@ -52,13 +51,11 @@ fn run_printed<B: Book>(rt: &impl Abort, book: &B, case: &Printed) -> Result<(),
     };
     assert!(rt; print(book, entry, WORKED, ROW, &mut row).is_ok());
     assert!(rt; &row == case.row);
-    match judge(book, ROW, &row) {
-        Ok(kind) => {
-            assert_eq!(rt; kind.mark, case.mark);
-            Ok(())
-        },
-        Err(_) => Err(Fail::new("a printed row is refused")),
-    }
+    let Ok(kind) = judge(book, ROW, &row) else {
+        return Err(Fail::new("a printed row is refused"));
+    };
+    assert_eq!(rt; kind.mark, case.mark);
+    Ok(())
 }
 
 fn change(rt: &impl Abort, row: &mut [u8; 750], change: &Change) {
@@ -74,19 +71,19 @@ fn run_judged<B: Book>(
     printed: &[Printed],
     case: &Judged,
 ) -> Result<(), Fail> {
-    let Judged(base, changes, number, position) = *case;
-    assert!(rt; base < printed.len());
-    let mut row = *printed[base].row;
-    for each in changes {
+    let base = printed.get(case.base).expect(rt, "no such printed row");
+    let mut row = *base.row;
+    for each in case.changes {
         change(rt, &mut row, each);
     }
-    match judge(book, ROW, &row) {
-        Ok(kind) => {
-            assert_eq!(rt; number, 0);
+    match (judge(book, ROW, &row), case.told) {
+        (Ok(kind), None) => {
             assert_eq!(rt; kind.mark, row[0]);
             Ok(())
         }
-        Err(fault) => check_refusal(rt, fault.refusal(), number, ROW, position),
+        (Err(fault), Some(told)) => check_refusal(rt, fault.refusal(), told),
+        (Ok(_), Some(_)) => Err(Fail::new("a bad row is good")),
+        (Err(_), None) => Err(Fail::new("a good row is refused")),
     }
 }
 
@@ -120,7 +117,7 @@ fn run_refused(rt: &impl Abort, case: &Refused) -> Result<(), Fail> {
         return Err(Fail::new("printed"));
     };
     assert!(rt; row == [b'#'; 750]);
-    check_refusal(rt, fault.refusal(), case.number, case.first, case.second)
+    check_refusal(rt, fault.refusal(), case.told)
 }
 
 #[test]

@@ -1,14 +1,13 @@
 // The file that the receiver of money sends to the bank, to issue, cancel and change recurrences of Pix Automático.
-ghost use Rattle.std.specs.Prelude.{◌≡◌};
+ghost use Rattle.std.specs.Prelude.{◌≡◌, None};
 ghost use Rattle.recurring_charges.specs.BookS.{layout_s};
 ghost use Rattle.recurring_charges.specs.Laws;
 ghost use Rattle.std.proofs.Common.{rules};
 
 use fields::field::{Field, Sort, Working};
-use layouts::book::{Book, Meant};
+use layouts::book::Book;
 use layouts::conditions::{Claim, Condition, Premise};
-use layouts::kinds::{Group, Kind};
-use layouts::told::{Limit, NoSum};
+use layouts::kinds::{Group, Kind, Place};
 
 // Book S.
 #[derive(Clone, Copy, PartialEq, Eq, Debug)]
@@ -130,25 +129,23 @@ static TRAILER_FIELDS: [Field; 5] = [
     Field { start: 745, width: 6, sort: Sort::Worked(Working::RowNumber), required: true },
 ];
 
-impl Meant for RecurringCharges {
-    type Limit = Limit<0>;
-
-    type Summed = NoSum;
-
-    const GROUP_LIMIT: Limit<0> = Limit;
-
-    const SUMMED: NoSum = NoSum;
-
+impl Book for RecurringCharges {
     ghost meaning = { layout_s };
+
+    ghost GROUP_LIMIT = { 0 };
+
+    ghost SUMMED = { None };
 
     ghost lawful = { Laws.lawful };
 
     ghost limited = { Prim.search rules };
 
     ghost sums = { Prim.search rules };
-}
 
-impl Book for RecurringCharges {
+    const GROUP_LIMIT: usize = 0;
+
+    const SUMMED: Option<Place> = None;
+
     fn kind_of(&self, mark: u8) -> Option<Kind> {
         match mark as char {
             '0' => Some(HEADER),

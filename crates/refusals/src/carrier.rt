@@ -14,12 +14,11 @@ pub enum CarrierFault {
     NoSuchRow(usize),
 }
 
-impl CarrierFault {
-    // The number, the layer and the value that are returned.
-    pub fn refusal(self) -> Refusal
-        ensures { result ≡ of_carrier self }
-    {
-        let (number, first) = match self {
+impl From<CarrierFault> for Refusal {
+    ghost from_gives = { λ e r. r ≡ of_carrier e };
+
+    fn from(fault: CarrierFault) -> Refusal {
+        let (number, first) = match fault {
             CarrierFault::BadForm(at) => (1, at),
             CarrierFault::Full(places) => (2, places),
             CarrierFault::NoSuchRow(row) => (3, row),
@@ -30,5 +29,14 @@ impl CarrierFault {
             first,
             second: 0,
         }
+    }
+}
+
+impl CarrierFault {
+    // The number, the layer and the value that are returned.
+    pub fn refusal(self) -> Refusal
+        ensures { result ≡ of_carrier self }
+    {
+        self.into()
     }
 }

@@ -73,12 +73,11 @@ impl From<FieldFault> for DraftFault {
     }
 }
 
-impl DraftFault {
-    // The number, the layer and the two values that are returned.
-    pub fn refusal(self) -> Refusal
-        ensures { result ≡ of_draft self }
-    {
-        match self {
+impl From<DraftFault> for Refusal {
+    ghost from_gives = { λ e r. r ≡ of_draft e };
+
+    fn from(fault: DraftFault) -> Refusal {
+        match fault {
             DraftFault::WrongState => Refusal {
                 number: 30,
                 layer: Layer::Draft,
@@ -90,5 +89,14 @@ impl DraftFault {
             DraftFault::File(fault) => fault.refusal(),
             DraftFault::Carrier(fault) => fault.refusal(),
         }
+    }
+}
+
+impl DraftFault {
+    // The number, the layer and the two values that are returned.
+    pub fn refusal(self) -> Refusal
+        ensures { result ≡ of_draft self }
+    {
+        self.into()
     }
 }

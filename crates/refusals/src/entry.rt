@@ -79,16 +79,35 @@ impl From<ValueFault> for TakeFault {
     }
 }
 
+impl From<ValueFault> for Refusal {
+    ghost from_gives = { λ e r. r ≡ of_value e };
+
+    fn from(fault: ValueFault) -> Refusal {
+        Refusal {
+            number: 31,
+            layer: Layer::Draft,
+            first: fault.number,
+            second: 0,
+        }
+    }
+}
+
 impl ValueFault {
     // The number, the layer and the value's number.
     pub fn refusal(self) -> Refusal
         ensures { result ≡ of_value self }
     {
-        Refusal {
-            number: 31,
-            layer: Layer::Draft,
-            first: self.number,
-            second: 0,
+        self.into()
+    }
+}
+
+impl From<EntryFault> for Refusal {
+    ghost from_gives = { λ e r. r ≡ of_entry e };
+
+    fn from(fault: EntryFault) -> Refusal {
+        match fault {
+            EntryFault::Value(fault) => fault.refusal(),
+            EntryFault::Row(fault) => fault.refusal(),
         }
     }
 }
@@ -97,9 +116,18 @@ impl EntryFault {
     pub fn refusal(self) -> Refusal
         ensures { result ≡ of_entry self }
     {
-        match self {
-            EntryFault::Value(fault) => fault.refusal(),
-            EntryFault::Row(fault) => fault.refusal(),
+        self.into()
+    }
+}
+
+impl From<TakeFault> for Refusal {
+    ghost from_gives = { λ e r. r ≡ of_take e };
+
+    fn from(fault: TakeFault) -> Refusal {
+        match fault {
+            TakeFault::Carrier(fault) => fault.refusal(),
+            TakeFault::Row(fault) => fault.refusal(),
+            TakeFault::Value(fault) => fault.refusal(),
         }
     }
 }
@@ -108,10 +136,6 @@ impl TakeFault {
     pub fn refusal(self) -> Refusal
         ensures { result ≡ of_take self }
     {
-        match self {
-            TakeFault::Carrier(fault) => fault.refusal(),
-            TakeFault::Row(fault) => fault.refusal(),
-            TakeFault::Value(fault) => fault.refusal(),
-        }
+        self.into()
     }
 }

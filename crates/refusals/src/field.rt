@@ -17,12 +17,11 @@ pub enum FieldFault {
     Differs { row: usize, position: usize },
 }
 
-impl FieldFault {
-    // The number, the layer, the row and the position that are returned.
-    pub fn refusal(self) -> Refusal
-        ensures { result ≡ of_field self }
-    {
-        let (number, first, second) = match self {
+impl From<FieldFault> for Refusal {
+    ghost from_gives = { λ e r. r ≡ of_field e };
+
+    fn from(fault: FieldFault) -> Refusal {
+        let (number, first, second) = match fault {
             FieldFault::BadByte { row, position } => (11, row, position),
             FieldFault::NotFilled { row, position } => (12, row, position),
             FieldFault::Unfit { row, position } => (13, row, position),
@@ -34,5 +33,14 @@ impl FieldFault {
             first,
             second,
         }
+    }
+}
+
+impl FieldFault {
+    // The number, the layer, the row and the position that are returned.
+    pub fn refusal(self) -> Refusal
+        ensures { result ≡ of_field self }
+    {
+        self.into()
     }
 }

@@ -51,12 +51,11 @@ impl From<FieldFault> for FileFault {
     }
 }
 
-impl FileFault {
-    // The number, the layer and the two values that are returned.
-    pub fn refusal(self) -> Refusal
-        ensures { result ≡ of_file self }
-    {
-        let (number, first, second) = match self {
+impl From<FileFault> for Refusal {
+    ghost from_gives = { λ e r. r ≡ of_file e };
+
+    fn from(fault: FileFault) -> Refusal {
+        let (number, first, second) = match fault {
             FileFault::OutOfOrder { row } => (20, row, 1),
             FileFault::GroupFull { row } => (21, row, 1),
             FileFault::OwnerType { row } => (22, row, 1),
@@ -75,5 +74,14 @@ impl FileFault {
             first,
             second,
         }
+    }
+}
+
+impl FileFault {
+    // The number, the layer and the two values that are returned.
+    pub fn refusal(self) -> Refusal
+        ensures { result ≡ of_file self }
+    {
+        self.into()
     }
 }

@@ -8,7 +8,7 @@ use crate::file::FileFault;
 use crate::table::{Layer, Refusal};
 
 // The lower layers' faults are carried whole.
-#[derive(Clone, Copy)]
+#[derive(Clone, Copy, PartialEq, Eq, Debug)]
 pub enum InputFault {
     // More bytes than a letter, LF and 40 lines.
     TooLong,
@@ -35,12 +35,11 @@ impl From<FileFault> for InputFault {
     }
 }
 
-impl InputFault {
-    // The number, the layer and the two values that are returned.
-    pub fn refusal(self) -> Refusal
-        ensures { result ≡ of_input self }
-    {
-        let number = match self {
+impl From<InputFault> for Refusal {
+    ghost from_gives = { λ e r. r ≡ of_input e };
+
+    fn from(fault: InputFault) -> Refusal {
+        let number = match fault {
             InputFault::TooLong => 33,
             InputFault::NoBook => 32,
             InputFault::Form(fault) => return fault.refusal(),
@@ -52,5 +51,14 @@ impl InputFault {
             first: 0,
             second: 0,
         }
+    }
+}
+
+impl InputFault {
+    // The number, the layer and the two values that are returned.
+    pub fn refusal(self) -> Refusal
+        ensures { result ≡ of_input self }
+    {
+        self.into()
     }
 }

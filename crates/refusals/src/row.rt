@@ -23,12 +23,11 @@ impl From<FieldFault> for RowFault {
     }
 }
 
-impl RowFault {
-    // The number, the layer, the row and the position that are returned.
-    pub fn refusal(self) -> Refusal
-        ensures { result ≡ of_row self }
-    {
-        let (number, first, second) = match self {
+impl From<RowFault> for Refusal {
+    ghost from_gives = { λ e r. r ≡ of_row e };
+
+    fn from(fault: RowFault) -> Refusal {
+        let (number, first, second) = match fault {
             RowFault::NoSuchKind { row } => (10, row, 1),
             RowFault::Condition { row, position } => (15, row, position),
             RowFault::Field(fault) => return fault.refusal(),
@@ -39,5 +38,14 @@ impl RowFault {
             first,
             second,
         }
+    }
+}
+
+impl RowFault {
+    // The number, the layer, the row and the position that are returned.
+    pub fn refusal(self) -> Refusal
+        ensures { result ≡ of_row self }
+    {
+        self.into()
     }
 }

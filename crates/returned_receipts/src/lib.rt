@@ -1,4 +1,5 @@
 // The book of returned receipts (letter Q), with its laws shown.
+// Its tables are written out in full, like those of the other books: they are compared with the bank's own, row by row.
 #![tactic(auto)]
 
 mod returned;

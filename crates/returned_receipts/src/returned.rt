@@ -2,13 +2,13 @@
 ghost use Rattle.std.specs.Prelude.{◌≡◌};
 ghost use Rattle.returned_receipts.specs.BookQ.{layout_q};
 ghost use Rattle.returned_receipts.specs.Laws;
+ghost use Rattle.layouts.specs.Meaning.{place_in};
 ghost use Rattle.std.proofs.Common.{rules};
 
 use fields::field::{Field, Sort, Working};
-use layouts::book::{Book, Meant};
+use layouts::book::Book;
 use layouts::conditions::Condition;
-use layouts::kinds::{Group, Kind};
-use layouts::told::{Limit, SumOf};
+use layouts::kinds::{Group, Kind, Place};
 
 // Book Q.
 #[derive(Clone, Copy, PartialEq, Eq, Debug)]
@@ -150,25 +150,26 @@ static TRAILER_FIELDS: [Field; 8] = [
     Field { start: 745, width: 6, sort: Sort::Worked(Working::RowNumber), required: true },
 ];
 
-impl Meant for ReturnedReceipts {
-    type Limit = Limit<50>;
-
-    type Summed = SumOf<b'1', AMOUNT_PAID>;
-
-    const GROUP_LIMIT: Limit<50> = Limit;
-
-    const SUMMED: SumOf<b'1', AMOUNT_PAID> = SumOf;
-
+impl Book for ReturnedReceipts {
     ghost meaning = { layout_q };
+
+    ghost GROUP_LIMIT = { 50 };
+
+    ghost SUMMED = { place_in (layout_q).summed };
 
     ghost lawful = { Laws.lawful };
 
     ghost limited = { Prim.search rules };
 
     ghost sums = { Prim.search rules };
-}
 
-impl Book for ReturnedReceipts {
+    const GROUP_LIMIT: usize = 50;
+
+    const SUMMED: Option<Place> = Some(Place {
+        kind: TRANSACTION,
+        field: AMOUNT_PAID,
+    });
+
     fn kind_of(&self, mark: u8) -> Option<Kind> {
         match mark as char {
             '0' => Some(HEADER),

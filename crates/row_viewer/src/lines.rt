@@ -32,10 +32,5 @@ pub fn line_with(start: usize, position: usize) -> usize
 pub fn field_with(fields: &[Field], position: usize) -> Option<usize>
     ensures { IfSome result (λ i. Holds fields.now i position) }
 {
-    for i in 0..fields.len() {
-        if fields[i].start <= position && position - fields[i].start < fields[i].width {
-            return Some(i);
-        }
-    }
-    None
+    fields.iter().position(|field| field.start <= position && position - field.start < field.width)
 }

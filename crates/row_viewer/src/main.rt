@@ -9,7 +9,7 @@ mod view;
 
 use anyhow::anyhow;
 use books::letters::Letter;
-use input::{InputFault, row_in};
+use input::row_in;
 use outgoing_receipts::OutgoingReceipts;
 use recurring_charges::RecurringCharges;
 use returned_receipts::ReturnedReceipts;
@@ -20,61 +20,43 @@ use view::put_row;
 
 const USAGE: &str = "usage: row_viewer LETTER [FILE LETTER FILE ..] (P, Q or S)";
 
-fn letter_in(word: &[u8]) -> anyhow::Result<Letter> {
-    if word.len() == 1 {
-        if let Some(letter) = Letter::read(word[0]) {
-            return Ok(letter);
-        }
-    }
-    Err(anyhow!(USAGE))
-}
-
+// A trait with one generic method would say the book of a letter once for all programs, and be longer than these arms.
 fn show(rt: &HostRuntime, letter: Letter, bytes: &[u8]) -> anyhow::Result<()> {
-    let heap = rt.alloc();
-    let row = match row_in(bytes) {
-        Ok(row) => row,
-        Err(InputFault::Form(fault)) => {
-            let at = fault.refusal().first;
-            let text = format!(in heap; "the input breaks the hexadecimal form at byte {at}")?;
-            return Err(anyhow!(text));
-        }
-        Err(InputFault::Rows(count)) => {
-            let text = format!(in heap; "one row is wanted, and there are {count}")?;
-            return Err(anyhow!(text));
-        }
-    };
-    let mut out = Vec::new(heap);
+    let row = row_in(bytes)?;
+    let mut out = format!(in rt.alloc(); "{letter} ")?;
     match letter {
-        Letter::P => put_row(heap, &mut out, letter.byte(), &OutgoingReceipts, &row)?,
-        Letter::Q => put_row(heap, &mut out, letter.byte(), &ReturnedReceipts, &row)?,
-        Letter::S => put_row(heap, &mut out, letter.byte(), &RecurringCharges, &row)?,
+        Letter::P => put_row(&mut out, &OutgoingReceipts, &row)?,
+        Letter::Q => put_row(&mut out, &ReturnedReceipts, &row)?,
+        Letter::S => put_row(&mut out, &RecurringCharges, &row)?,
     }
-    rt.stdout().write_all(&out)?;
+    rt.stdout().write_all(out.as_bytes())?;
     Ok(())
 }
 
-fn run(rt: &HostRuntime) -> anyhow::Result<()> {
-    let mut book = None;
-    let mut shows = false;
-    for word in env::args(rt)?.skip(1) {
-        match book {
-            None => book = Some(letter_in(word.as_bytes())?),
-            Some(letter) => {
-                let bytes = fs::read(rt, word.as_str())?;
-                show(rt, letter, bytes.as_slice())?;
-                book = None;
-                shows = true;
-            }
-        }
-    }
-    if let Some(letter) = book {
-        let mut bytes = Vec::new(rt.alloc());
-        rt.stdin().read_to_end(&mut bytes)?;
-        return show(rt, letter, bytes.as_slice());
-    }
-    if shows { Ok(()) } else { Err(anyhow!(USAGE)) }
+fn read_input(rt: &HostRuntime) -> anyhow::Result<Vec<u8>> {
+    let mut bytes = Vec::new(rt.alloc());
+    rt.stdin().read_to_end(&mut bytes)?;
+    Ok(bytes)
 }
 
+// Letters and files take turns, and standard input stands for the last file where it is left out.
+fn run(rt: &HostRuntime) -> anyhow::Result<()> {
+    let mut words = env::args(rt)?.skip(1).peekable();
+    if words.peek().is_none() {
+        return Err(anyhow!(USAGE));
+    }
+    while let Some(word) = words.next() {
+        let letter = word.parse().map_err(|_| anyhow!(USAGE))?;
+        let bytes = match words.next() {
+            Some(file) => fs::read(rt, file.as_str())?,
+            None => read_input(rt)?,
+        };
+        show(rt, letter, bytes.as_slice())?;
+    }
+    Ok(())
+}
+
+// A main that hands its error on would print it in another form, and one function for the four programs that end so would need a crate of its own.
 fn main(rt: HostRuntime) -> ExitCode {
     match run(&rt) {
         Ok(()) => ExitCode::SUCCESS,

@@ -1,113 +1,89 @@
 // A row as a person reads it: each field with its positions and its name, and its content under a ruler.
-ghost use Rattle.std.specs.Prelude.{◌+◌, ◌-◌, ◌<◌, ◌≤◌, length};
+ghost use Rattle.std.specs.Prelude.{◌+◌, ◌<◌, ◌≤◌, length};
 
 use crate::lines::{COLUMNS, field_with, line_with, shown};
 use crate::meanings::meaning_of;
-use fields::field::Field;
 use layouts::book::Book;
 use layouts::kinds::Kind;
 use layouts::named::Named;
+use layouts::placed::Placed;
 use records::{find_kind, judge};
-use refusals::Refusal;
-use std::alloc::{AllocError, Global};
+use std::alloc::AllocError;
+use std::fmt::Write;
 
-const MARGIN: &[u8; 9] = b"         ";
+const MARGIN: &str = "         ";
 
 // The columns of a line, counted.
-const RULER: &[u8; 140] =
-    b"                  1         2         3         4         5         6\n         123456789012345678901234567890123456789012345678901234567890\n";
-
-const BLANKS: [u8; COLUMNS] = [b' '; COLUMNS];
+const RULER: &str =
+    "                  1         2         3         4         5         6\n         123456789012345678901234567890123456789012345678901234567890\n";
 
 // The columns from a position on, between bars, with the position before them.
-fn put_line(
-    heap: Global,
-    out: &mut Vec<u8>,
-    position: usize,
-    bytes: &[u8],
-) -> Result<(), AllocError> {
-    let lead = format!(in heap; "    {position:03} |")?;
-    out.extend_from_slice(lead.as_bytes())?;
-    for byte in bytes {
-        out.push(shown(*byte))?;
+fn put_line(out: &mut String, position: usize, columns: &[u8]) -> Result<(), AllocError> {
+    write!(out, "    {position:03} |")?;
+    for byte in columns {
+        out.push(shown(*byte) as char)?;
     }
-    out.extend_from_slice(b"|\n")
+    out.push_str("|\n")
 }
 
 // A mark under a column of the line above.
-fn put_mark(out: &mut Vec<u8>, column: usize) -> Result<(), AllocError>
-    requires { column < 60 }
-{
-    out.extend_from_slice(MARGIN)?;
-    out.extend_from_slice(&BLANKS[0..column])?;
-    out.extend_from_slice(b"^\n")
+fn put_mark(out: &mut String, column: usize) -> Result<(), AllocError> {
+    out.push_str(MARGIN)?;
+    for _ in 0..column {
+        out.push(' ')?;
+    }
+    out.push_str("^\n")
 }
 
 // The positions and the name of a field.
-fn put_name(heap: Global, out: &mut Vec<u8>, field: &Field, name: &str) -> Result<(), AllocError>
-    requires { (1 ≤ field.now.start) × (field.now.start + field.now.width ≤ 751) }
-{
-    let first = field.start;
-    let last = field.start + field.width - 1;
-    let line = format!(in heap; "{first:03}-{last:03} {name}\n")?;
-    out.extend_from_slice(line.as_bytes())
+fn put_name(out: &mut String, placed: Placed, name: &str) -> Result<(), AllocError> {
+    let first = placed.field.start;
+    let last = placed.last();
+    write!(out, "{first:03}-{last:03} {name}\n")
 }
 
 // The content of a field, in lines of at most 60 columns.
-fn put_content(
-    heap: Global,
-    out: &mut Vec<u8>,
-    field: &Field,
-    row: &[u8; 750],
-) -> Result<(), AllocError>
-    requires { (1 ≤ field.now.start) × (field.now.start + field.now.width ≤ 751) }
-{
-    let end = field.start + field.width;
-    for i in 0..(field.width + COLUMNS - 1) / COLUMNS {
-        let from = field.start + i * COLUMNS;
-        let to = end.min(from + COLUMNS);
-        put_line(heap, out, from, &row[from - 1..to - 1])?;
+fn put_content(out: &mut String, placed: Placed, row: &[u8; 750]) -> Result<(), AllocError> {
+    for (i, columns) in placed.content(row).chunks(COLUMNS).enumerate() {
+        put_line(out, placed.field.start + i * COLUMNS, columns)?;
     }
     Ok(())
 }
 
 fn put_fields<B: Book + Named>(
-    heap: Global,
-    out: &mut Vec<u8>,
+    out: &mut String,
     book: &B,
     kind: Kind,
     row: &[u8; 750],
 ) -> Result<(), AllocError> {
     let fields = book.fields(kind);
     let names = book.names(kind);
-    for i in 0..fields.len() {
-        put_name(heap, out, &fields[i], names[i])?;
-        put_content(heap, out, &fields[i], row)?;
+    for (field, name) in fields.iter().zip(names) {
+        let placed = Placed { field: *field };
+        put_name(out, placed, name)?;
+        put_content(out, placed, row)?;
     }
     Ok(())
 }
 
-// The line that holds a position, and a mark under it.
+// The line that holds a position of a content, and a mark under it.
 fn put_marked(
-    heap: Global,
-    out: &mut Vec<u8>,
+    out: &mut String,
     start: usize,
-    end: usize,
+    content: &[u8],
     position: usize,
-    row: &[u8; 750],
 ) -> Result<(), AllocError>
-    requires { (1 ≤ start) × ((start ≤ position) × ((position < end) × (end ≤ 751))) }
+    requires { (start ≤ position) × (position < start + length content.now) }
 {
     let from = line_with(start, position);
-    let to = end.min(from + COLUMNS);
-    put_line(heap, out, from, &row[from - 1..to - 1])?;
+    let rest = &content[from - start..];
+    put_line(out, from, &rest[..rest.len().min(COLUMNS)])?;
     put_mark(out, position - from)
 }
 
 // The field in which a row was refused, or the front of a row that has no kind.
 fn put_place<B: Book + Named>(
-    heap: Global,
-    out: &mut Vec<u8>,
+    out: &mut String,
     book: &B,
     position: usize,
     row: &[u8; 750],
@@ -118,51 +94,38 @@ fn put_place<B: Book + Named>(
         let fields = book.fields(kind);
         let names = book.names(kind);
         if let Some(i) = field_with(fields, position) {
-            let field = fields[i];
-            put_name(heap, out, &field, names[i])?;
-            return put_marked(
-                heap,
-                out,
-                field.start,
-                field.start + field.width,
-                position,
-                row,
-            );
+            let placed = Placed { field: fields[i] };
+            put_name(out, placed, names[i])?;
+            return put_marked(out, placed.field.start, placed.content(row), position);
         }
     }
-    put_marked(heap, out, 1, 751, position, row)
+    put_marked(out, 1, row, position)
 }
 
 // What a row of a book is: its kind and its fields, or why it is refused.
 pub fn put_row<B: Book + Named>(
-    heap: Global,
-    out: &mut Vec<u8>,
-    letter: u8,
+    out: &mut String,
     book: &B,
     row: &[u8; 750],
 ) -> Result<(), AllocError> {
-    let letter = letter as char;
     match judge(book, 1, row) {
         Ok(kind) => {
             let mark = kind.mark as char;
             let title = book.title(kind);
-            let line = format!(in heap; "{letter} kind {mark} - {title}\n")?;
-            out.extend_from_slice(line.as_bytes())?;
-            out.extend_from_slice(RULER)?;
-            put_fields(heap, out, book, kind, row)
+            write!(out, "kind {mark} - {title}\n{RULER}")?;
+            put_fields(out, book, kind, row)
         }
         Err(fault) => {
             let refusal = fault.refusal();
             let number = refusal.number;
             let position = refusal.second;
-            let meaning = meaning_of(number);
-            let line = format!(in heap;
-                "{letter} refusal {number} at position {position:03}: {meaning}\n"
+            let meaning = meaning_of(fault);
+            write!(
+                out,
+                "refusal {number} at position {position:03}: {meaning}\n{RULER}"
             )?;
-            out.extend_from_slice(line.as_bytes())?;
-            out.extend_from_slice(RULER)?;
-            if 1 <= position && position <= 750 {
-                put_place(heap, out, book, position, row)?;
+            if (1..=750).contains(&position) {
+                put_place(out, book, position, row)?;
             }
             Ok(())
         }

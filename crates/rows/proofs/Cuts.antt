@@ -1,17 +1,11 @@
 -- Memory cut into lines of one size: where a line lies, and what a write to one leaves of the others.
-use Rattle.std.proofs.Common.{◌≡◌, ℕ, ◌+◌, ◌-◌, ◌*◌, ◌/◌, ◌<◌, ◌≤◌, min, List, [], ◌∷◌, ◌++◌, map, length, take, drop, sym, ap, ◌∙◌, arith}
-use Rattle.std.specs.List.{range_with_len}
-use Rattle.std.proofs.lemmas.List.{same_lists, take-append-le, drop-append-le, length-take-le, length-append, length-drop, take_at, drop_at, drop-drop, take-take, drop-take}
-use Rattle.std.proofs.lemmas.List.FromFn.{length-map-range_with_len, get_or-map-range_with_len, map-range_with_len_more}
+use Rattle.std.proofs.Common.{◌≡◌, ℕ, ◌+◌, ◌-◌, ◌*◌, ◌/◌, ◌<◌, ◌≤◌, List, [], ◌∷◌, ◌++◌, length, take, drop, sym, ap, ◌∙◌, arith}
+use Rattle.std.proofs.lemmas.List.{take-append-le, drop-append-le, length-take-le, length-drop, take-take, drop-take}
+use Rattle.std.proofs.lemmas.List.FromFn.{map-range_with_len_more, fill_by_all}
 use Rattle.std.proofs.lemmas.Nat.{mul-le}
-use borrow.Rule.Slice.PartMut.{put_mid}
-use Rattle.rows.specs.Whole.{next_line, line_fits, length-line_at}
+use Rattle.std.proofs.lemmas.Grind.{common_steps}
+use Rattle.rows.specs.Whole.{next_line, line_fits, length-rows_of, get_or-rows_of}
 use Rattle.rows.specs.Lines.{line_at, rows_of, written}
-
-map-counting_same : {X : Type 0} (f g : ℕ → X) (n : ℕ) → ((k : ℕ) → k < n → f k ≡ g k) → map f (range_with_len 0 n) ≡ map g (range_with_len 0 n)
-map-counting_same f g n same =
-    same_lists (map f (range_with_len 0 n)) (map g (range_with_len 0 n)) (length-map-range_with_len f 0 n ∙ sym (length-map-range_with_len g 0 n))
-    (λ k d h. let l : k < n = omega (arith, length-map-range_with_len f 0 n) in get_or-map-range_with_len f 0 n k k d l (omega arith) ∙ same k l ∙ sym (get_or-map-range_with_len g 0 n k k d l (omega arith)))
 
 -- a line below the one that is written stays
 line_kept : (size : ℕ) (bytes line : List ℕ) (at k : ℕ) → k * size + size ≤ at → at ≤ length bytes → line_at size (written bytes at size line) k ≡ line_at size bytes k
@@ -27,48 +21,19 @@ line_kept size bytes line at k below fits =
 
 -- the line that is written is the new one
 line_put : (size : ℕ) (bytes line : List ℕ) (k : ℕ) → k * size ≤ length bytes → length line ≡ size → line_at size (written bytes (k * size) size line) k ≡ line
-line_put size bytes line k fits len =
-    ap (take size) (drop_at (take (k * size) bytes) (line ++ drop (k * size + size) bytes) (k * size) (length-take-le (k * size) bytes fits)) ∙ take_at line (drop (k * size + size) bytes) size len
-
-pub length-written : (bytes : List ℕ) (at size : ℕ) (line : List ℕ) → at + size ≤ length bytes → length line ≡ size → length (written bytes at size line) ≡ length bytes
-length-written bytes at size line fits len =
-    let a : length (take at bytes) ≡ at = length-take-le at bytes (omega arith) in
-    omega (arith, length-append (take at bytes) (line ++ drop (at + size) bytes), length-append line (drop (at + size) bytes), length-drop (at + size) bytes)
+line_put size bytes line k fits len = grind (arith, common_steps)
 
 -- one line more
-pub rows_more : (row : List ℕ → List ℕ) (size held : ℕ) (bytes line r : List ℕ) → held * size + size ≤ length bytes → length line ≡ size → row line ≡ r → rows_of row size (held + 1) (written bytes (held * size) size line) ≡ rows_of row size held bytes ++ (r ∷ [])
+rows_more : (row : List ℕ → List ℕ) (size held : ℕ) (bytes line r : List ℕ) → held * size + size ≤ length bytes → length line ≡ size → row line ≡ r → rows_of row size (held + 1) (written bytes (held * size) size line) ≡ rows_of row size held bytes ++ (r ∷ [])
 rows_more row size held bytes line r fits len back =
     let after = written bytes (held * size) size line in
     let more = map-range_with_len_more (λ k. row (line_at size after k)) 0 held held (omega arith) in
-    let kept = map-counting_same (λ k. row (line_at size after k)) (λ k. row (line_at size bytes k)) held
-    (λ k h. ap row (line_kept size bytes line (held * size) k (omega (arith, next_line k size, mul-le (k + 1) size held size (omega arith) (omega arith))) (omega arith))) in
+    let kept : rows_of row size held bytes ≡ rows_of row size held after =
+    fill_by_all (λ k. row (line_at size after k)) (rows_of row size held bytes) held [] (length-rows_of row size held bytes)
+    (λ k h. get_or-rows_of row size held bytes k [] h ∙ ap row (sym (line_kept size bytes line (held * size) k (omega (arith, next_line k size, mul-le (k + 1) size held size (omega arith) (omega arith))) (omega arith)))) in
     let last : row (line_at size after held) ≡ r = ap row (line_put size bytes line held (omega arith) len) ∙ back in
-    more ∙ ap (λ xs. xs ++ (row (line_at size after held) ∷ [])) kept ∙ ap (λ x. rows_of row size held bytes ++ (x ∷ [])) last
-
--- a line as the code cuts it, where `real` is the size as a call answered it
-pub line_read : (size real k : ℕ) (bytes : List ℕ) → real ≡ size → take (k * real + real - k * real) (drop (k * real) bytes) ≡ line_at size bytes k
-line_read size real k bytes e = rw e (ap (λ n. take n (drop (k * size) bytes)) (omega arith))
-
--- the line lies within the memory, and has its length
-pub line_within : (size real k len : ℕ) → real ≡ size → k < len / size → k * real + real ≤ len
-line_within size real k len e h = rw e (line_fits k size len h)
-
-pub line_length : (size real k : ℕ) (bytes : List ℕ) → real ≡ size → k < length bytes / size → length (take (k * real + real - k * real) (drop (k * real) bytes)) ≡ size
-line_length size real k bytes e h = ap length (line_read size real k bytes e) ∙ length-line_at size bytes k (line_fits k size (length bytes) h)
-
-pub line_written : (size real k : ℕ) (bytes out line : List ℕ) → real ≡ size → out ≡ line → put_mid (k * real) (k * real + real - k * real) bytes out ≡ written bytes (k * size) size line
-line_written size real k bytes out line e o =
-    let n : k * size + size - k * size ≡ size = omega arith in
-    rw (e, o) (ap (λ t. take (k * size) bytes ++ (line ++ t)) (drop-drop (k * size + size - k * size) (k * size) bytes ∙ ap (λ m. drop (k * size + m) bytes) n))
-
--- a push: the places stay
-pub places_kept : (size held : ℕ) (bytes after line : List ℕ) → after ≡ written bytes (held * size) size line → held < length bytes / size → length line ≡ size → length after / size ≡ length bytes / size
-places_kept size held bytes after line e h len = ap (λ n. n / size) (ap length e ∙ length-written bytes (held * size) size line (line_fits held size (length bytes) h) len)
+    more ∙ ap (λ xs. xs ++ (row (line_at size after held) ∷ [])) (sym kept) ∙ ap (λ x. rows_of row size held bytes ++ (x ∷ [])) last
 
 -- a push: one row more
-pub push_rows : (row : List ℕ → List ℕ) (size held : ℕ) (bytes after line r : List ℕ) → after ≡ written bytes (held * size) size line → held < length bytes / size → length line ≡ size → row line ≡ r → rows_of row size (min (held + 1) (length after / size)) after ≡ rows_of row size (min held (length bytes / size)) bytes ++ (r ∷ [])
-push_rows row size held bytes after line r e h len back =
-    let p = places_kept size held bytes after line e h len in
-    let m : min (held + 1) (length after / size) ≡ held + 1 = omega arith in
-    let n : min held (length bytes / size) ≡ held = omega arith in
-    ap (λ k. rows_of row size k after) m ∙ ap (rows_of row size (held + 1)) e ∙ rows_more row size held bytes line r (line_fits held size (length bytes) h) len back ∙ ap (λ k. rows_of row size k bytes ++ (r ∷ [])) (sym n)
+pub push_rows : (row : List ℕ → List ℕ) (size held : ℕ) (bytes after line r : List ℕ) → after ≡ written bytes (held * size) size line → held < length bytes / size → length line ≡ size → row line ≡ r → rows_of row size (held + 1) after ≡ rows_of row size held bytes ++ (r ∷ [])
+push_rows row size held bytes after line r e h len back = ap (rows_of row size (held + 1)) e ∙ rows_more row size held bytes line r (line_fits held size (length bytes) h) len back

@@ -14,8 +14,9 @@ pub fn copy_all<S: Source, C: Carrier>(from: &S, to: &mut C) -> Result<usize, Ca
 {
     let count = from.count();
     let mut row = [0u8; 750];
-    for i in 0..count {
-        from.copy_row(i + 1, &mut row)?;
+    // By their numbers: a source is asked for a row, and hands out no iterator.
+    for n in 1..=count {
+        from.copy_row(n, &mut row)?;
         to.push(&row)?;
     }
     Ok(count)

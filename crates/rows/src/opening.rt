@@ -7,7 +7,7 @@ ghost use Rattle.rows.specs.Rows.{BrokenForm};
 ghost use Rattle.rows.specs.Whole.{rows_of_all};
 
 use crate::carriers::Source;
-use crate::lines::{copy_line, line_count};
+use crate::lines::{copy_held, line_count};
 use forms::Form;
 use refusals::CarrierFault;
 use std::marker::PhantomData;
@@ -23,15 +23,12 @@ fn first_bad<F: Form>(bytes: &[u8]) -> Option<usize>
     ensures { MatchOption result (Formed F.Form.good F.Form.size bytes.now) (FirstBad F.Form.good F.Form.size bytes.now) }
 {
     let size = F::line_len();
-    for i in 0..bytes.len() {
-        if !F::allows(i % size, bytes[i]) {
+    for (i, byte) in bytes.iter().enumerate() {
+        if !F::allows(i % size, *byte) {
             return Some(i);
         }
     }
-    if bytes.len() % size != 0 {
-        return Some(bytes.len());
-    }
-    None
+    (bytes.len() % size != 0).then_some(bytes.len())
 }
 
 impl<'a, F: Form> Opened<'a, F> {
@@ -60,10 +57,6 @@ impl<'a, F: Form> Source for Opened<'a, F> {
     }
 
     fn copy_row(&self, n: usize, out: &mut [u8; 750]) -> Result<(), CarrierFault> {
-        if n == 0 || n > self.count() {
-            return Err(CarrierFault::NoSuchRow(n));
-        }
-        copy_line::<F>(self.bytes, n - 1, out);
-        Ok(())
+        copy_held::<F>(self.bytes, self.count(), n, out)
     }
 }

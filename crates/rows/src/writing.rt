@@ -1,19 +1,21 @@
 // A carrier that writes lines of a form over lent memory.
-ghost use Rattle.std.specs.Prelude.{◌≡◌, ℕ, ◌+◌, ◌*◌, ◌/◌, min, List, [], ◌∷◌, length};
+ghost use Rattle.std.specs.Prelude.{◌≡◌, ℕ, ◌+◌, ◌*◌, ◌/◌, ◌≤◌, List, [], ◌∷◌, length};
 ghost use Rattle.rows.specs.Lines.{rows_of};
 ghost use Rattle.rows.specs.Whole.{rows_whole};
 
 use crate::carriers::{Carrier, Source};
-use crate::lines::{copy_line, line_count, put_line};
+use crate::lines::{copy_held, line_count, put_line};
 use forms::Form;
 use refusals::CarrierFault;
 use std::marker::PhantomData;
 
+// The memory is the caller's, since the engine has no heap: the rows held are the first `held` lines of it.
 #[derive(Drop)]
-pub struct Written<'a, F> {
+pub struct Written<'a, F: Form> {
     memory: &'a mut [u8],
     held: usize,
     form: PhantomData<F>,
+    ghost fits: { held ≤ length memory.now / F.Form.size },
 }
 
 impl<'a, F: Form> Written<'a, F> {
@@ -36,20 +38,16 @@ impl<'a, F: Form> Written<'a, F> {
 }
 
 impl<'a, F: Form> Source for Written<'a, F> {
-    ghost rows = { λ w. rows_of F.Form.decoded F.Form.size (min w.held (length w.memory.now / F.Form.size)) w.memory.now };
+    ghost rows = { λ w. rows_of F.Form.decoded F.Form.size w.held w.memory.now };
 
-    ghost whole = { λ w. rows_whole F.Form.decoded F.Form.size F.Form.whole w.held w.memory.now };
+    ghost whole = { λ w. rows_whole F.Form.decoded F.Form.size F.Form.whole w.held w.memory.now w.fits };
 
     fn count(&self) -> usize {
-        self.held.min(line_count::<F>(self.memory))
+        self.held
     }
 
     fn copy_row(&self, n: usize, out: &mut [u8; 750]) -> Result<(), CarrierFault> {
-        if n == 0 || n > self.count() {
-            return Err(CarrierFault::NoSuchRow(n));
-        }
-        copy_line::<F>(self.memory, n - 1, out);
-        Ok(())
+        copy_held::<F>(self.memory, self.held, n, out)
     }
 }
 
@@ -73,8 +71,7 @@ impl<'a, F: Form> Carrier for Written<'a, F> {
         if self.held >= places {
             return Err(CarrierFault::Full(places));
         }
-        let k = self.held;
-        put_line::<F>(self.memory, k, row);
+        put_line::<F>(self.memory, self.held, row);
         self.held += 1;
         Ok(())
     }

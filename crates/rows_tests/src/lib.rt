@@ -10,10 +10,8 @@ mod tests {
 
     // What opening a hexadecimal text answers: how many rows, or the fault.
     fn hexadecimal_rows(bytes: &[u8]) -> Result<usize, CarrierFault> {
-        match Opened::<Hexadecimal>::open(bytes) {
-            Ok(opened) => Ok(opened.count()),
-            Err(fault) => Err(fault),
-        }
+        let opened = Opened::<Hexadecimal>::open(bytes)?;
+        Ok(opened.count())
     }
 
     #[test]
@@ -22,15 +20,13 @@ mod tests {
         line[1] = b'F';
         line[1500] = b'\n';
         let mut row = [0u8; 750];
-        match Opened::<Hexadecimal>::open(&line) {
-            Ok(opened) => {
-                assert!(rt; opened.count() == 1);
-                assert!(rt; opened.copy_row(1, &mut row).is_ok());
-                assert!(rt; opened.copy_row(0, &mut row) == Err(CarrierFault::NoSuchRow(0)));
-                assert!(rt; opened.copy_row(2, &mut row) == Err(CarrierFault::NoSuchRow(2)));
-            }
-            Err(_) => return Err(Fail::new("the line is refused")),
-        }
+        let opened = Opened::<Hexadecimal>::open(&line).map_err(|_| Fail::new(
+            "the line is refused",
+        ))?;
+        assert!(rt; opened.count() == 1);
+        assert!(rt; opened.copy_row(1, &mut row).is_ok());
+        assert!(rt; opened.copy_row(0, &mut row) == Err(CarrierFault::NoSuchRow(0)));
+        assert!(rt; opened.copy_row(2, &mut row) == Err(CarrierFault::NoSuchRow(2)));
         assert!(rt; row[0] == 0x4F && row[1] == 0x44 && row[749] == 0x44);
         Ok(())
     }
@@ -94,14 +90,10 @@ mod tests {
         let mut rows = [b'x'; 2250];
         rows[750] = b'y';
         let mut memory = [0u8; 1501];
-        match Opened::<Flat>::open(&rows) {
-            Ok(from) => {
-                let mut out: Written<Flat> = Written::over(&mut memory);
-                assert!(rt; copy_all(&from, &mut out) == Err(CarrierFault::Full(2)));
-                assert!(rt; out.count() == 2);
-            }
-            Err(_) => return Err(Fail::new("flat rows are refused")),
-        }
+        let from = Opened::<Flat>::open(&rows).map_err(|_| Fail::new("flat rows are refused"))?;
+        let mut out: Written<Flat> = Written::over(&mut memory);
+        assert!(rt; copy_all(&from, &mut out) == Err(CarrierFault::Full(2)));
+        assert!(rt; out.count() == 2);
         assert!(rt;
             memory[0] == b'x' && memory[750] == b'y' && memory[751] == b'x' && memory[1500] == 0
         );

@@ -6,8 +6,8 @@ use example_entries::{charge, follower, header, trailer};
 use files::checking::{Accepted, check};
 use forms::{Hexadecimal, Lined};
 use outgoing_receipts::OutgoingReceipts;
-use refusals::{CarrierFault, DraftFault, FileFault, Refusal};
-use rows::{Filling, Opened, Written};
+use refusals::{CarrierFault, DraftFault, InputFault};
+use rows::{Opened, Written, write_all};
 
 // A header, a charge with one follower, and a trailer.
 fn draft_file(memory: &mut [u8]) -> Result<(), DraftFault> {
@@ -21,37 +21,22 @@ fn draft_file(memory: &mut [u8]) -> Result<(), DraftFault> {
 
 // The same rows in the hexadecimal form.
 fn to_hexadecimal(lined: &[u8], memory: &mut [u8]) -> Result<usize, CarrierFault> {
-    match Opened::<Lined>::open(lined) {
-        Ok(opened) => Hexadecimal::write_all(&opened, memory),
-        Err(fault) => Err(fault),
-    }
+    let opened: Opened<Lined> = Opened::open(lined)?;
+    write_all::<Hexadecimal, _>(&opened, memory)
 }
 
-// What the reader says of rows in the hexadecimal form.
-fn check_hexadecimal(bytes: &[u8]) -> Result<Accepted, Refusal> {
-    match Opened::<Hexadecimal>::open(bytes) {
-        Ok(opened) => match check(&OutgoingReceipts, &opened) {
-            Ok(accepted) => Ok(accepted),
-            Err(fault) => Err(fault.refusal()),
-        },
-        Err(fault) => Err(fault.refusal()),
-    }
+// What the reader says of rows in the hexadecimal form. `large_file` has these lines for the flat form: one function for both would need a crate of its own.
+fn check_hexadecimal(bytes: &[u8]) -> Result<Accepted, InputFault> {
+    let opened: Opened<Hexadecimal> = Opened::open(bytes)?;
+    Ok(check(&OutgoingReceipts, &opened)?)
 }
 
-fn tell(rt: &HostRuntime, what: &str, answer: Result<Accepted, Refusal>) -> anyhow::Result<()> {
+fn tell(rt: &HostRuntime, what: &str, answer: Result<Accepted, InputFault>) -> anyhow::Result<()> {
     match answer {
-        Ok(accepted) => {
-            let rows = accepted.rows;
-            let cents = accepted.sum.value();
-            let whole = cents / 100;
-            let rest = cents % 100;
-            println!(rt; "{what}: {rows} rows, total {whole}.{rest:02}")?;
-        }
-        Err(refusal) => {
-            let number = refusal.number;
-            let row = refusal.first;
-            let position = refusal.second;
-            println!(rt; "{what}: refusal {number}, row {row}, position {position}")?;
+        Ok(Accepted { rows, sum }) => println!(rt; "{what}: {rows} rows, total {sum}")?,
+        Err(fault) => {
+            let refusal = fault.refusal();
+            println!(rt; "{what}: {refusal}")?;
         }
     }
     Ok(())

@@ -1,7 +1,8 @@
 -- What single fields of a good row hold: what the row's entry has there.
-use Rattle.std.proofs.Common.{◌≡◌, ℕ, ◌<◌, cond, List, length, Some, None, Option, sym, ap, ◌∙◌, subst, arith}
+use Rattle.std.proofs.Common.{◌≡◌, ℕ, ◌<◌, ◌&&◌, eqb, cond, List, [], ◌∷◌, length, Some, None, Option, sym, refl, ap, ◌∙◌, subst}
+use lib.Pointwise.{pointwise}
 use Rattle.std.proofs.lemmas.Bool.{eq-eqb}
-use Rattle.fields.specs.Field.{Sort, text, amount}
+use Rattle.fields.specs.Field.{Sort, text, amount, same}
 use Rattle.layouts.specs.Layout.{Layout, Place, field_at}
 use Rattle.layouts.specs.Lawful.{NotWorked, Names, CodeSort, Lawful}
 use Rattle.layouts.specs.Meaning.{place_in}
@@ -14,14 +15,24 @@ use Rattle.records.proofs.Judged.{fault_held, held_entered, held_worked}
 use Rattle.legality.specs.Before.{amount_at}
 use Rattle.standings.specs.Standing.{Good}
 
+-- two texts are the same where all their bytes are
+pub same_bytes : (xs ys : List ℕ) → pointwise eqb xs ys ≡ same xs ys
+same_bytes [] [] = refl
+same_bytes [] (y ∷ ys) = refl
+same_bytes (x ∷ xs) [] = refl
+same_bytes (x ∷ xs) (y ∷ ys) = ap (λ b. eqb x y && b) (same_bytes xs ys)
+
+pub some_is : {X : Type 0} {x y : X} → Some x ≡ Some y → x ≡ y
+some_is e = cc
+
 pub amount_unworked : (s : Sort) → s ≡ amount → NotWorked s
-amount_unworked s e k h = let z : ◌≡◌ {A = ℕ} 0 1 = cc in omega arith
+amount_unworked s e k h = absurd (cc)
 
 pub text_unworked : (s : Sort) → s ≡ text → NotWorked s
-text_unworked s e k h = let z : ◌≡◌ {A = ℕ} 0 1 = cc in omega arith
+text_unworked s e k h = absurd (cc)
 
 pub code_unworked : (s : Sort) → CodeSort s → NotWorked s
-code_unworked s e k h = let i = e.1 in let z : ◌≡◌ {A = ℕ} 0 1 = cc in omega arith
+code_unworked s e k h = let i = e.1 in absurd (cc)
 
 module _ (l : Layout) (law : Lawful l) (row : List ℕ) (good : Good l row) (m : ℕ) (here : m ≡ mark_of row) where
   known : mark10 l (mark_of row) ≡ None
@@ -47,6 +58,3 @@ module _ (l : Layout) (law : Lawful l) (row : List ℕ) (good : Good l row) (m :
       ap (λ i. number_in (cell_in (field_at (fields_of l m) i) row)) f
       ∙ ap number_in (holds p.field names.0 (amount_unworked _ names.1))
       ∙ sym (ap (λ b. cond b (number_at (contents l (entry_of l row)) p.field) 0) (eq-eqb (mark_of row) p.kind (sym here ∙ k)))
-    where
-      some_is : {X : Type 0} {x y : X} → Some x ≡ Some y → x ≡ y
-      some_is e = cc

@@ -1,12 +1,15 @@
 -- What the record says of every list that it stands for.
-use Rattle.std.proofs.Common.{◌≡◌, ℕ, zero, suc, ◌+◌, ◌%◌, ◌^◌, ◌<◌, ◌≤◌, true, false, cond, List, [], ◌∷◌, ◌++◌, length, drop, Some, None, Option, sym, refl, ap, ◌∙◌, subst, arith}
+use Rattle.std.proofs.Common.{◌≡◌, ℕ, zero, suc, ◌+◌, ◌%◌, ◌^◌, ◌<◌, ◌≤◌, true, false, cond, List, [], ◌∷◌, ◌++◌, length, drop, IfOk, MatchOption, Some, None, Ok, Err, Option, Result, sym, refl, ap, ◌∙◌, subst, arith}
+use Rattle.std.specs.Result.{IsErrAnd}
 use Rattle.std.proofs.lemmas.List.{length_push}
 use Rattle.std.proofs.lemmas.Bool.{eqb-true, eq-eqb, lt-ltb, le-ltb, cond-true, cond-false}
+use Rattle.numbers.specs.declared.cents.Cents.{Cents}
+use Rattle.refusals.specs.declared.file.FileFault.{FileFault}
 use Rattle.refusals.specs.declared.table.Refusal.{Refusal}
-use Rattle.refusals.specs.Refusals.{refusal}
+use Rattle.refusals.specs.Refusals.{refusal, refusal_in, of_file}
 use Rattle.refusals.specs.Faults.{Fault, in_row}
 use Rattle.fields.specs.Field.{any_of}
-use Rattle.layouts.specs.Layout.{Layout, Group, field_at}
+use Rattle.layouts.specs.Layout.{Layout, Group}
 use Rattle.layouts.specs.Lawful.{Lawful}
 use Rattle.layouts.specs.Meaning.{group_in, owns, follows}
 use Rattle.layouts.specs.declared.kinds.Kind.{Kind}
@@ -14,21 +17,17 @@ use Rattle.layouts.specs.declared.kinds.Group as program
 use Rattle.records.specs.Cells.{Origin, of_book, entered, reckoned, cells}
 use Rattle.records.specs.Conditions.{cell_at, number_at, text_in}
 use Rattle.records.specs.Conditions as held
-use Rattle.records.specs.Held.{cell_in}
-use Rattle.records.specs.Row.{Entry, fields_of, origins_of, contents, mark_of, entry_of}
+use Rattle.records.specs.Row.{Entry, origins_of, contents, mark_of, entry_of}
 use Rattle.records.proofs.Options.{some_none}
 use Rattle.standings.specs.declared.owner.Owner.{Owner}
 use Rattle.standings.specs.declared.progress.Progress.{Progress}
 use Rattle.legality.specs.Before.{last_place, owner_place, no_entry, owner_of, count_of, amount_at, sum_of}
 use Rattle.legality.specs.Checks.{bound, tied, owner22, summed_start, sum26}
 use Rattle.legality.specs.Progress.{owner_in, followers_in}
-use Rattle.standings.specs.Standing.{mark_in, number_in, entry_in, Good, GoodOwner, KeptOwner, Stands, Next}
+use Rattle.standings.specs.Standing.{mark_in, number_in, entry_in, Good, GoodOwner, KeptOwner, Stands, Next, bound_by}
 use Rattle.legality.proofs.Reckoning.{count_within}
 use Rattle.legality.proofs.Advance.{sum_push, count_push, mark_push, at_push, owner_push, following_push, record_is}
-use Rattle.standings.proofs.Holding.{text_unworked, code_unworked, holds}
-
-some_is : {X : Type 0} {x y : X} → Some x ≡ Some y → x ≡ y
-some_is e = cc
+use Rattle.standings.proofs.Holding.{some_is, text_unworked, code_unworked, holds}
 
 -- an entry with no values holds nothing
 nothing : (os : List Origin) (i : ℕ) → number_at (cells os [] []) i ≡ 0
@@ -50,9 +49,6 @@ followers_within (Some g) es = omega (arith, count_within (g.follower ∷ []) (d
     shorter (suc n) (x ∷ xs) = omega (arith, shorter n xs)
 
 module _ (l : Layout) (p : Progress) (es : List Entry) (s : Stands l p es) where
-  rows_is : p.rows ≡ length es
-  rows_is = ap (λ x. x.rows) s.says
-
   owner_at : number_in p.owner ≡ owner_place l.group es
   owner_at = ap (λ x. x.owner_at) s.says
 
@@ -116,11 +112,21 @@ module _ (l : Layout) (p : Progress) (es : List Entry) (s : Stands l p es) where
         let push = sum_push l es e in
         omega arith
 
-    pub sum_fits : (n : ℕ) → v < 10 ^ 17 → None ≡ in_row n (sum26 l es e)
+    sum_fits : (n : ℕ) → v < 10 ^ 17 → None ≡ in_row n (sum26 l es e)
     sum_fits n h = rw (lt-ltb (sum_of l (es ++ e ∷ [])) (10 ^ 17) (subst (λ x. x < 10 ^ 17) sum_more h)) refl
 
-    pub sum_past : (n at : ℕ) → at ≡ summed_start l l.summed → 10 ^ 17 ≤ v → Some (refusal 26 n at) ≡ in_row n (sum26 l es e)
-    sum_past n at start h = rw (le-ltb (sum_of l (es ++ e ∷ [])) (10 ^ 17) (subst (λ x. 10 ^ 17 ≤ x) sum_more h)) (ap (λ x. Some (refusal 26 n x)) start)
+    sum_past : (n : ℕ) → 10 ^ 17 ≤ v → Some (refusal 26 n (summed_start l l.summed)) ≡ in_row n (sum26 l es e)
+    sum_past n h = rw (le-ltb (sum_of l (es ++ e ∷ [])) (10 ^ 17) (subst (λ x. 10 ^ 17 ≤ x) sum_more h)) refl
+
+  -- both outcomes
+  pub record SumTold (e : Entry) (n : ℕ) (r : Result Cents FileFault) : Type 0 where
+    pub refused : refusal_in of_file r ≡ in_row n (sum26 l es e)
+    pub sum : IfOk r (λ sum. sum.value ≡ sum_of l (es ++ e ∷ []))
+
+  pub sum_told : (e : Entry) (a n : ℕ) → a ≡ amount_at l l.summed e → (o : Option Cents) (r : Result Cents FileFault) (Fault : FileFault → Type 0) → ((f : FileFault) → Fault f → of_file f ≡ refusal 26 n (summed_start l l.summed)) → MatchOption o (10 ^ 17 ≤ p.sum.value + a) (λ c. c.value ≡ p.sum.value + a) → MatchOption o (IsErrAnd r Fault) (λ c. r ≡ Ok c) → SumTold e n r
+  sum_told e a n amount (Some c) r Fault is sum ok = subst (SumTold e n) (sym ok) (record { refused = sum_fits e a c.value amount sum n c.bounded; sum = sum_more e a c.value amount sum })
+  sum_told e a n amount None (Ok c) Fault is past err = absurd err
+  sum_told e a n amount None (Err f) Fault is past err = record { refused = ap Some (is f err) ∙ sum_past e a (p.sum.value + a) amount refl n past; sum = tt }
 
   -- a follower, and what is kept of its owner
   module _ (row : List ℕ) (n : ℕ) (group : program.Group) (follower : mark_of row ≡ group.follower.mark) where
@@ -135,13 +141,10 @@ module _ (l : Layout) (p : Progress) (es : List Entry) (s : Stands l p es) where
 
     -- an owner is kept
     module _ (law : Lawful l) (good : Good l row) (o : Owner) (kept : p.owner ≡ Some o) where
-      abbrev bound_as : Group → Option Fault
-      bound_as g = bound l g (held.number_in (cell_in (field_at (fields_of l g.owner) g.owner_type) o.row)) (text_in (cell_in (field_at (fields_of l g.owner) g.owner_identifier) o.row)) (text_in (cell_in (field_at (fields_of l g.follower) g.follower_identifier) row))
-
       good_owner : GoodOwner l o
       good_owner = subst (KeptOwner l) kept s.keeps
 
-      bound_held : (g : Group) → l.group ≡ Some g → Some group ≡ group_in (Some g) → bound_as g ≡ bound_to g (entry_of l o.row)
+      bound_held : (g : Group) → l.group ≡ Some g → Some group ≡ group_in (Some g) → bound_by l g o.row row ≡ bound_to g (entry_of l o.row)
       bound_held g e is =
           let group-law = law.group g e in
           let owner : g.owner ≡ mark_of o.row = sym (eqb-true (mark_of o.row) g.owner (subst (λ gr. owns gr (mark_of o.row) ≡ true) e good_owner.owner)) in
@@ -154,13 +157,13 @@ module _ (l : Layout) (p : Progress) (es : List Entry) (s : Stands l p es) where
           bound_is : (g : Group) {a b : ℕ} {c d x y : List ℕ} → a ≡ b → c ≡ d → x ≡ y → bound l g a c x ≡ bound l g b d y
           bound_is g {a} {b} {c} {d} {x} {y} p q r = ap (λ a. bound l g a c x) p ∙ ap (λ c. bound l g b c x) q ∙ ap (λ x. bound l g b d x) r
 
-      tied_at : (gr : Option Group) → l.group ≡ gr → Some group ≡ group_in gr → (x : Option Refusal) → ((g : Group) → Some group ≡ group_in (Some g) → x ≡ in_row n (bound_as g)) → x ≡ in_row n (tied l gr es (entry_of l row))
+      tied_at : (gr : Option Group) → l.group ≡ gr → Some group ≡ group_in gr → (x : Option Refusal) → ((g : Group) → Some group ≡ group_in (Some g) → x ≡ in_row n (bound_by l g o.row row)) → x ≡ in_row n (tied l gr es (entry_of l row))
       tied_at None e is x h = some_none is
       tied_at (Some g) e is x h =
           let same : entry_of l o.row ≡ owner_of g es = ap (entry_in l) (sym kept) ∙ owner_is ∙ ap (λ gr. owner_in gr es) e in
           looked g (entry_of l o.row) x is same (h g is ∙ ap (in_row n) (bound_held g e is))
 
-      pub tied_kept : Some group ≡ group_in l.group → (x : Option Refusal) → ((g : Group) → Some group ≡ group_in (Some g) → x ≡ in_row n (bound_as g)) → x ≡ in_row n (owner22 l es (entry_of l row))
+      pub tied_kept : Some group ≡ group_in l.group → (x : Option Refusal) → ((g : Group) → Some group ≡ group_in (Some g) → x ≡ in_row n (bound_by l g o.row row)) → x ≡ in_row n (owner22 l es (entry_of l row))
       tied_kept = tied_at l.group refl
 
     -- none is: its type is not 2

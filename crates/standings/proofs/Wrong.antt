@@ -31,9 +31,6 @@ module _ (j : ℕ) (looked : Working → Bool) (r : Working → ℕ) where
     pub field_wrong : true ≡ is_wrong looked r (origin (field_of (get_or fields i d))) (number_in (cell_in (field_of (get_or fields i d)) row)) → wrong_from (drop i fields) row ≡ Some (fault j (get_or fields i d).start)
     field_wrong e = rw (sym e) at next_wrong
 
-    pub field_right : false ≡ is_wrong looked r (origin (field_of (get_or fields i d))) (number_in (cell_in (field_of (get_or fields i d)) row)) → wrong_from (drop (i + 1) fields) row ≡ wrong_from (drop i fields) row
-    field_right e = sym (rw (sym e) at next_wrong)
-
 -- only the numbers that are looked at matter
 pub same_wrong : (j : ℕ) (looked : Working → Bool) (r q : Working → ℕ) → ((k : Working) → looked k ≡ true → r k ≡ q k) → (os : List Origin) (ws : List ℕ) → first_wrong j looked r os ws ≡ first_wrong j looked q os ws
 same_wrong j looked r q same [] ws = refl

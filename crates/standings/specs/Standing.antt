@@ -1,13 +1,18 @@
 -- Which lists of entries the program's record stands for. Nothing else in these definitions knows that record.
-use Rattle.std.specs.Prelude.{◌≡◌, ℕ, ◌+◌, ◌≤◌, true, List, length, Some, None, Option}
-use Rattle.refusals.specs.Faults.{first_some}
+use Rattle.std.specs.Prelude.{◌≡◌, ℕ, ◌+◌, ◌≤◌, true, List, [], ◌∷◌, ◌++◌, length, Some, None, Option}
+use Rattle.refusals.specs.Faults.{Fault, first_some}
+use Rattle.numbers.specs.declared.cents.Cents.{Cents}
 use Rattle.layouts.specs.declared.kinds.Kind.{Kind}
-use Rattle.layouts.specs.Layout.{Layout}
+use Rattle.layouts.specs.Layout.{Layout, Group, field_at}
 use Rattle.layouts.specs.Meaning.{owns}
-use Rattle.records.specs.Row.{Entry, mark_of, entry_of, row_faults}
+use Rattle.records.specs.Conditions as held
+use Rattle.records.specs.Held.{cell_in}
+use Rattle.records.specs.Row.{Entry, fields_of, mark_of, entry_of, row_faults}
+use Rattle.standings.specs.declared.next.NextRow.{NextRow}
 use Rattle.standings.specs.declared.owner.Owner.{Owner}
 use Rattle.standings.specs.declared.progress.Progress.{Progress}
-use Rattle.legality.specs.Before.{no_entry}
+use Rattle.legality.specs.Before.{no_entry, sum_of}
+use Rattle.legality.specs.Checks.{bound}
 use Rattle.legality.specs.Progress as s
 
 abbrev pub mark_in : Option Kind → Option ℕ
@@ -60,3 +65,27 @@ pub record Next (l : Layout) (es : List Entry) (n : ℕ) (kind : Kind) (row : Li
   pub few : n ≤ 65535
   pub marked : kind.mark ≡ mark_of row
   pub good : Good l row
+
+-- the entry of a row, and the entries with it
+abbrev pub entry_of_next : Layout → NextRow → Entry
+entry_of_next l next = entry_of l next.row.now
+
+abbrev pub with_next : Layout → List Entry → NextRow → List Entry
+with_next l es next = es ++ entry_of_next l next ∷ []
+
+-- a row that is read as an entry, of the kind that it is taken for
+pub record IsRead (l : Layout) (next : NextRow) : Type 0 where
+  pub good : Good l next.row.now
+  pub marked : next.kind.mark ≡ mark_of next.row.now
+
+-- and after the entries es, with the number that it is taken for
+abbrev pub IsNext : Layout → List Entry → NextRow → Type 0
+IsNext l es next = Next l es next.number next.kind next.row.now
+
+-- what the entries and the row sum up to
+abbrev pub IsSumWith : Layout → List Entry → NextRow → Cents → Type 0
+IsSumWith l es next sum = sum.value ≡ sum_of l (with_next l es next)
+
+-- what binds a follower's row to its owner's
+abbrev pub bound_by : Layout → Group → List ℕ → List ℕ → Option Fault
+bound_by l g owner row = bound l g (held.number_in (cell_in (field_at (fields_of l g.owner) g.owner_type) owner)) (held.text_in (cell_in (field_at (fields_of l g.owner) g.owner_identifier) owner)) (held.text_in (cell_in (field_at (fields_of l g.follower) g.follower_identifier) row))

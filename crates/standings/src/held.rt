@@ -2,40 +2,39 @@
 ghost use Rattle.std.specs.Prelude.{◌≡◌};
 ghost use Rattle.fields.specs.Meaning.{field_of};
 ghost use Rattle.layouts.specs.Layout.{field_at};
-ghost use Rattle.records.specs.Row.{fields_of, mark_of, entry_of};
+ghost use Rattle.records.specs.Row.{fields_of};
 ghost use Rattle.legality.specs.Before.{amount_at};
-ghost use Rattle.standings.specs.Standing.{Good};
+ghost use Rattle.standings.specs.Standing.{IsRead, entry_of_next};
 
+use crate::next::NextRow;
 use fields::field::{Field, Sort};
 use layouts::book::{Book, summed_place};
 use layouts::kinds::Kind;
 use records::number_in;
 
+const NO_FIELD: Field = Field {
+    start: 0,
+    width: 0,
+    sort: Sort::Blank,
+    required: false,
+};
+
 // An empty field where the kind has none at the place.
 pub(crate) fn field_of<B: Book>(book: &B, kind: Kind, place: usize) -> Field
-    ensures { field_of result ≡ field_at (fields_of B.Meant.meaning kind.mark) place }
+    ensures { field_of result ≡ field_at (fields_of B.meaning kind.mark) place }
 {
-    let fields = book.fields(kind);
-    if place < fields.len() {
-        return fields[place];
-    }
-    Field {
-        start: 0,
-        width: 0,
-        sort: Sort::Blank,
-        required: false,
-    }
+    book.fields(kind).get(place).copied().unwrap_or(NO_FIELD)
 }
 
-// What a good row of the kind adds to the sum.
-pub(crate) fn amount_in<B: Book>(book: &B, kind: Kind, row: &[u8; 750]) -> u64
-    ensures { Good B.Meant.meaning row.now → kind.mark ≡ mark_of row.now → result ≡ amount_at B.Meant.meaning B.Meant.meaning.summed (entry_of B.Meant.meaning row.now) }
+// What a good row of its kind adds to the sum.
+pub(crate) fn amount_in<B: Book>(book: &B, next: NextRow) -> u64
+    ensures { IsRead B.meaning next.entry → result ≡ amount_at B.meaning B.meaning.summed (entry_of_next B.meaning next.entry) }
 {
-    let Some(place) = summed_place(book) else {
-        return 0;
-    };
-    if kind != place.kind {
-        return 0;
+    match summed_place(book) {
+        Some(place) if next.kind == place.kind => number_in(
+            &field_of(book, next.kind, place.field),
+            next.row,
+        ),
+        _ => 0,
     }
-    number_in(&field_of(book, kind, place.field), row)
 }

@@ -2,6 +2,7 @@
 #![tactic(auto)]
 
 mod held;
+pub mod next;
 pub mod owner;
 pub mod progress;
 pub mod worked;

@@ -3,15 +3,11 @@ ghost use Rattle.std.specs.Prelude.{◌≡◌, Some};
 ghost use Rattle.refusals.specs.Refusals.{refusal_in, of_file};
 ghost use Rattle.refusals.specs.Faults.{in_row};
 ghost use Rattle.layouts.specs.Layout as s;
-ghost use Rattle.layouts.specs.Layout.{field_at};
 ghost use Rattle.layouts.specs.Meaning.{group_in};
-ghost use Rattle.records.specs.Conditions.{number_in, text_in};
-ghost use Rattle.records.specs.Held.{cell_in};
-ghost use Rattle.records.specs.Row.{fields_of};
-ghost use Rattle.legality.specs.Checks.{bound};
+ghost use Rattle.standings.specs.Standing.{bound_by};
 
 use crate::held::field_of;
-use fields::is_same;
+use crate::next::NextRow;
 use layouts::book::Book;
 use layouts::kinds::Group;
 use records::{number_in, text_in};
@@ -25,24 +21,24 @@ pub struct Owner {
 
 impl Owner {
     // Whether a row of a follower is bound to this owner.
+    #[tactic(auto, using(crate::proofs::Holding::same_bytes))]
     pub(crate) fn bind<B: Book>(
         &self,
         book: &B,
         group: Group,
-        row_number: usize,
-        row: &[u8; 750],
+        next: NextRow,
     ) -> Result<(), FileFault>
-        ensures { (g : s.Group) → Some group ≡ group_in (Some g) → refusal_in of_file result ≡ in_row row_number (bound B.Meant.meaning g (number_in (cell_in (field_at (fields_of B.Meant.meaning g.owner) g.owner_type) self.now.row)) (text_in (cell_in (field_at (fields_of B.Meant.meaning g.owner) g.owner_identifier) self.now.row)) (text_in (cell_in (field_at (fields_of B.Meant.meaning g.follower) g.follower_identifier) row.now))) }
+        ensures { (g : s.Group) → Some group ≡ group_in (Some g) → refusal_in of_file result ≡ in_row next.entry.number (bound_by B.meaning g self.now.row next.entry.row.now) }
     {
         let charge = field_of(book, group.owner, group.owner_type);
         if number_in(&charge, &self.row) != 2 {
-            return Err(FileFault::OwnerType { row: row_number });
+            return Err(FileFault::OwnerType { row: next.number });
         }
         let own = field_of(book, group.owner, group.owner_identifier);
         let copy = field_of(book, group.follower, group.follower_identifier);
-        if !is_same(text_in(&own, &self.row), text_in(&copy, row)) {
+        if text_in(&own, &self.row) != text_in(&copy, next.row) {
             return Err(FileFault::OtherIdentifier {
-                row: row_number,
+                row: next.number,
                 position: copy.start,
             });
         }

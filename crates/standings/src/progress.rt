@@ -1,18 +1,19 @@
 // What is kept of the entries before: enough to check the next row and to work out its fields.
-ghost use Rattle.std.specs.Prelude.{◌≡◌, ℕ, ◌+◌, ◌^◌, ◌≤◌, true, List, [], ◌∷◌, ◌++◌, length, IfOk, MatchOption};
+ghost use Rattle.std.specs.Prelude.{◌≡◌, ◌+◌, ◌^◌, ◌≤◌, true, List, [], ◌∷◌, ◌++◌, length, IfOk, MatchOption};
 ghost use Rattle.refusals.specs.Refusals.{refusal_in, of_file};
 ghost use Rattle.refusals.specs.Faults.{in_row, first_some};
 ghost use Rattle.fields.specs.Field.{Working};
 ghost use Rattle.layouts.specs.Layout.{Layout};
-ghost use Rattle.records.specs.Row.{Entry, mark_of, entry_of};
+ghost use Rattle.records.specs.Row.{Entry};
 ghost use Rattle.legality.specs.Before.{count_of, sum_of, reckon};
 ghost use Rattle.legality.specs.Checks.{row27, may_stand, order20, full, group21, owner22, summed_start, sum26, is_number};
 ghost use Rattle.legality.specs.File.{closed};
 ghost use Rattle.legality.specs.Progress.{followers_in};
-ghost use Rattle.standings.specs.Standing.{number_in, Good, Stands, Next};
+ghost use Rattle.standings.specs.Standing.{number_in, Stands, IsRead, IsNext, IsSumWith, entry_of_next, with_next};
 ghost use Rattle.records.specs.Worked.{worked_of};
 
 use crate::held::{amount_in, field_of};
+use crate::next::NextRow;
 use crate::owner::Owner;
 use layouts::book::{Book, largest_group, summed_place};
 use layouts::kinds::Kind;
@@ -21,6 +22,7 @@ use numbers::cents::Cents;
 use records::Worked;
 use refusals::FileFault;
 
+// The entries that it stands for are a premise of each clause, and no ghost field: that field would ask `advance`'s callers for their proof.
 #[derive(Clone, Copy)]
 pub struct Progress {
     rows: usize,
@@ -62,12 +64,9 @@ impl Progress {
 
     // Whether the last of them is a trailer.
     pub fn is_closed<B: Book>(&self, book: &B) -> bool
-        ensures { (es : List Entry) → Stands B.Meant.meaning self.now es → result ≡ closed B.Meant.meaning es }
+        ensures { (es : List Entry) → Stands B.meaning self.now es → result ≡ closed B.meaning es }
     {
-        match self.last {
-            Some(kind) => kind == book.trailer(),
-            None => false,
-        }
+        self.last.is_some_and(|kind| kind == book.trailer())
     }
 
     // The number of the row that would come next.
@@ -84,7 +83,7 @@ impl Progress {
     }
 
     fn may_stand<B: Book>(&self, book: &B, kind: Kind) -> bool
-        ensures { (es : List Entry) → Stands B.Meant.meaning self.now es → result ≡ may_stand B.Meant.meaning es kind.mark }
+        ensures { (es : List Entry) → Stands B.meaning self.now es → result ≡ may_stand B.meaning es kind.mark }
     {
         match self.last {
             Some(last) => book.may_follow(kind, last),
@@ -93,14 +92,14 @@ impl Progress {
     }
 
     fn is_full<B: Book>(&self, book: &B, kind: Kind) -> bool
-        ensures { (es : List Entry) → Stands B.Meant.meaning self.now es → result ≡ full B.Meant.meaning.group es kind.mark }
+        ensures { (es : List Entry) → Stands B.meaning self.now es → result ≡ full B.meaning.group es kind.mark }
     {
         is_follower(book, kind) && largest_group(book) <= self.following
     }
 
     // Whether a row of the kind may come next: by the order of kinds, and as one more follower.
     pub fn place<B: Book>(&self, book: &B, row_number: usize, kind: Kind) -> Result<(), FileFault>
-        ensures { (es : List Entry) → Stands B.Meant.meaning self.now es → refusal_in of_file result ≡ in_row row_number (first_some (order20 B.Meant.meaning es kind.mark ∷ (group21 B.Meant.meaning es kind.mark ∷ []))) }
+        ensures { (es : List Entry) → Stands B.meaning self.now es → refusal_in of_file result ≡ in_row row_number (first_some (order20 B.meaning es kind.mark ∷ (group21 B.meaning es kind.mark ∷ []))) }
     {
         if !self.may_stand(book, kind) {
             return Err(FileFault::OutOfOrder { row: row_number });
@@ -111,51 +110,36 @@ impl Progress {
         Ok(())
     }
 
-    // Whether a good row of the kind is bound to the last owner, where the kind is that of followers.
-    pub fn tie<B: Book>(
-        &self,
-        book: &B,
-        row_number: usize,
-        kind: Kind,
-        row: &[u8; 750],
-    ) -> Result<(), FileFault>
-        ensures { (es : List Entry) → Stands B.Meant.meaning self.now es → Good B.Meant.meaning row.now → kind.mark ≡ mark_of row.now → refusal_in of_file result ≡ in_row row_number (owner22 B.Meant.meaning es (entry_of B.Meant.meaning row.now)) }
+    // Whether a good row is bound to the last owner, where its kind is that of followers.
+    pub fn tie<B: Book>(&self, book: &B, next: NextRow) -> Result<(), FileFault>
+        ensures { (es : List Entry) → Stands B.meaning self.now es → IsRead B.meaning next.entry → refusal_in of_file result ≡ in_row next.entry.number (owner22 B.meaning es (entry_of_next B.meaning next.entry)) }
     {
         let Some(group) = book.group() else {
             return Ok(());
         };
-        if kind != group.follower {
+        if next.kind != group.follower {
             return Ok(());
         }
         match &self.owner {
-            Some(owner) => owner.bind(book, group, row_number, row),
-            None => Err(FileFault::OwnerType { row: row_number }),
+            Some(owner) => owner.bind(book, group, next),
+            None => Err(FileFault::OwnerType { row: next.number }),
         }
     }
 
-    // The sum with a good row of the kind.
-    pub fn sum_with<B: Book>(
-        &self,
-        book: &B,
-        row_number: usize,
-        kind: Kind,
-        row: &[u8; 750],
-    ) -> Result<Cents, FileFault>
-        ensures refused { (es : List Entry) → Stands B.Meant.meaning self.now es → Good B.Meant.meaning row.now → kind.mark ≡ mark_of row.now → refusal_in of_file result ≡ in_row row_number (sum26 B.Meant.meaning es (entry_of B.Meant.meaning row.now)) }
-        ensures sum { (es : List Entry) → Stands B.Meant.meaning self.now es → Good B.Meant.meaning row.now → kind.mark ≡ mark_of row.now → IfOk result (λ sum. sum.value ≡ sum_of B.Meant.meaning (es ++ entry_of B.Meant.meaning row.now ∷ [])) }
+    // The sum with a good row.
+    pub fn sum_with<B: Book>(&self, book: &B, next: NextRow) -> Result<Cents, FileFault>
+        ensures refused { (es : List Entry) → Stands B.meaning self.now es → IsRead B.meaning next.entry → refusal_in of_file result ≡ in_row next.entry.number (sum26 B.meaning es (entry_of_next B.meaning next.entry)) }
+        ensures sum { (es : List Entry) → Stands B.meaning self.now es → IsRead B.meaning next.entry → IfOk result (IsSumWith B.meaning es next.entry) }
     {
-        match plus(self.sum, amount_in(book, kind, row)) {
-            Some(sum) => Ok(sum),
-            None => Err(FileFault::SumTooLarge {
-                row: row_number,
-                position: summed_start(book),
-            }),
-        }
+        plus(self.sum, amount_in(book, next)).ok_or_else(|| FileFault::SumTooLarge {
+            row: next.number,
+            position: summed_start(book),
+        })
     }
 
     // The rows that the trailer counts, with one of the kind.
     fn counted_with<B: Book>(&self, book: &B, kind: Kind) -> usize
-        ensures { (es : List Entry) (e : Entry) → Stands B.Meant.meaning self.now es → kind.mark ≡ e.mark → result ≡ count_of B.Meant.meaning.counted (es ++ e ∷ []) }
+        ensures { (es : List Entry) (e : Entry) → Stands B.meaning self.now es → kind.mark ≡ e.mark → result ≡ count_of B.meaning.counted (es ++ e ∷ []) }
     {
         if book.is_counted(kind) {
             return self.counted.wrapping_add(1);
@@ -165,7 +149,7 @@ impl Progress {
 
     // The followers since the last owner, with a row of the kind.
     fn following_with<B: Book>(&self, book: &B, kind: Kind) -> usize
-        ensures { (es : List Entry) (e : Entry) → Stands B.Meant.meaning self.now es → kind.mark ≡ e.mark → result ≡ followers_in B.Meant.meaning.group (es ++ e ∷ []) }
+        ensures { (es : List Entry) (e : Entry) → Stands B.meaning self.now es → kind.mark ≡ e.mark → result ≡ followers_in B.meaning.group (es ++ e ∷ []) }
     {
         if is_owner(book, kind) {
             return 0;
@@ -179,16 +163,13 @@ impl Progress {
     fn owner_number(&self) -> usize
         ensures { result ≡ number_in self.now.owner }
     {
-        match &self.owner {
-            Some(owner) => owner.number,
-            None => 0,
-        }
+        self.owner.as_ref().map_or(0, |owner| owner.number)
     }
 
     // What the worked fields of the next row hold, which is of the kind and brings the sum to `sum`.
     pub fn worked<B: Book>(&self, book: &B, row_number: usize, kind: Kind, sum: Cents) -> Worked
-        ensures numbers { (es : List Entry) (e : Entry) → Stands B.Meant.meaning self.now es → row_number ≡ length es + 1 → kind.mark ≡ e.mark → (k : Working) → is_number k ≡ true → worked_of result k ≡ reckon B.Meant.meaning es e k }
-        ensures all { (es : List Entry) (e : Entry) → Stands B.Meant.meaning self.now es → row_number ≡ length es + 1 → kind.mark ≡ e.mark → sum.value ≡ sum_of B.Meant.meaning (es ++ e ∷ []) → (k : Working) → worked_of result k ≡ reckon B.Meant.meaning es e k }
+        ensures numbers { (es : List Entry) (e : Entry) → Stands B.meaning self.now es → row_number ≡ length es + 1 → kind.mark ≡ e.mark → (k : Working) → is_number k ≡ true → worked_of result k ≡ reckon B.meaning es e k }
+        ensures all { (es : List Entry) (e : Entry) → Stands B.meaning self.now es → row_number ≡ length es + 1 → kind.mark ≡ e.mark → sum.value ≡ sum_of B.meaning (es ++ e ∷ []) → (k : Working) → worked_of result k ≡ reckon B.meaning es e k }
     {
         Worked {
             row_number: row_number as u64,
@@ -198,27 +179,20 @@ impl Progress {
         }
     }
 
-    // Takes a good row of the kind, which brings the sum to `sum`.
-    pub fn advance<B: Book>(
-        &mut self,
-        book: &B,
-        row_number: usize,
-        kind: Kind,
-        row: &[u8; 750],
-        sum: Cents,
-    )
-        ensures { (es : List Entry) → Stands B.Meant.meaning self.old es → Next B.Meant.meaning es row_number kind row.now → sum.value ≡ sum_of B.Meant.meaning (es ++ entry_of B.Meant.meaning row.now ∷ []) → Stands B.Meant.meaning self.new (es ++ entry_of B.Meant.meaning row.now ∷ []) }
+    // Takes a good row, which brings the sum to `sum`.
+    pub fn advance<B: Book>(&mut self, book: &B, next: NextRow, sum: Cents)
+        ensures { (es : List Entry) → Stands B.meaning self.old es → IsNext B.meaning es next.entry → IsSumWith B.meaning es next.entry sum → Stands B.meaning self.new (with_next B.meaning es next.entry) }
     {
-        let counted = self.counted_with(book, kind);
-        let following = self.following_with(book, kind);
-        if is_owner(book, kind) {
+        let counted = self.counted_with(book, next.kind);
+        let following = self.following_with(book, next.kind);
+        if is_owner(book, next.kind) {
             self.owner = Some(Owner {
-                number: row_number,
-                row: *row,
+                number: next.number,
+                row: *next.row,
             });
         }
-        self.rows = row_number;
-        self.last = Some(kind);
+        self.rows = next.number;
+        self.last = Some(next.kind);
         self.following = following;
         self.sum = sum;
         self.counted = counted;
@@ -229,18 +203,12 @@ impl Progress {
 fn plus(sum: Cents, amount: u64) -> Option<Cents>
     ensures { MatchOption result (10 ^ 17 ≤ sum.value + amount) (λ c. c.value ≡ sum.value + amount) }
 {
-    match Cents::new(amount) {
-        Some(amount) => sum.plus(amount),
-        None => None,
-    }
+    Cents::new(amount).and_then(|amount| sum.plus(amount))
 }
 
 // Where the amount that is summed starts.
 fn summed_start<B: Book>(book: &B) -> usize
-    ensures { result ≡ summed_start B.Meant.meaning B.Meant.meaning.summed }
+    ensures { result ≡ summed_start B.meaning B.meaning.summed }
 {
-    match summed_place(book) {
-        Some(place) => field_of(book, place.kind, place.field).start,
-        None => 0,
-    }
+    summed_place(book).map_or(0, |place| field_of(book, place.kind, place.field).start)
 }

@@ -10,11 +10,12 @@ ghost use Rattle.legality.specs.Checks.{is_wrong, first_wrong};
 ghost use Rattle.records.specs.Worked.{worked_of};
 ghost use Rattle.standings.specs.Looks.{number_for, looks_at};
 
+use crate::next::NextRow;
 use fields::field::{Field, Sort, Working};
 use records::{Worked, number_in};
 use refusals::FileFault;
 
-// Which worked fields are looked at.
+// Which worked fields are looked at. An enum and no closure: the clauses name the fields and the refusal of each case.
 #[derive(Clone, Copy)]
 pub enum Look {
     // The numbers of the row and of its owner.
@@ -27,12 +28,12 @@ impl Look {
     fn is_at(self, working: Working) -> bool
         ensures { result ≡ looks_at self (working_of working) }
     {
-        match (self, working) {
-            (Look::Numbers, Working::RowNumber | Working::OwnerNumber) => true,
-            (Look::Totals, Working::Total) => true,
-            (Look::Counts, Working::Count) => true,
-            _ => false,
-        }
+        matches!(
+            (self, working),
+            (Look::Numbers, Working::RowNumber | Working::OwnerNumber)
+                | (Look::Totals, Working::Total)
+                | (Look::Counts, Working::Count)
+        )
     }
 
     fn fault(self, row_number: usize, position: usize) -> FileFault
@@ -50,11 +51,10 @@ impl Look {
 fn is_wrong(field: &Field, look: Look, worked: Worked, row: &[u8; 750]) -> bool
     ensures { result ≡ is_wrong (looks_at look) (worked_of worked) (origin (field_of field.now)) (number_in (cell_in (field_of field.now) row.now)) }
 {
-    match field.sort {
-        Sort::Worked(working) => look.is_at(working)
-            && number_in(field, row) != worked.number(working),
-        _ => false,
-    }
+    matches!(
+        field.sort,
+        Sort::Worked(working) if look.is_at(working) && number_in(field, row) != worked.number(working)
+    )
 }
 
 // Refuses the first worked field that is looked at and holds another number.
@@ -62,14 +62,13 @@ pub fn check_worked(
     fields: &[Field],
     look: Look,
     worked: Worked,
-    row_number: usize,
-    row: &[u8; 750],
+    next: NextRow,
 ) -> Result<(), FileFault>
-    ensures { refusal_in of_file result ≡ in_row row_number (first_wrong (number_for look) (looks_at look) (worked_of worked) (origins (map field_of fields.now)) (digits_held (map field_of fields.now) row.now)) }
+    ensures { refusal_in of_file result ≡ in_row next.entry.number (first_wrong (number_for look) (looks_at look) (worked_of worked) (origins (map field_of fields.now)) (digits_held (map field_of fields.now) next.entry.row.now)) }
 {
     for field in fields {
-        if is_wrong(field, look, worked, row) {
-            return Err(look.fault(row_number, field.start));
+        if is_wrong(field, look, worked, next.row) {
+            return Err(look.fault(next.number, field.start));
         }
     }
     Ok(())

@@ -1,6 +1,6 @@
 // Why nothing was transcribed.
 ghost use Rattle.std.specs.Prelude.{◌≡◌};
-ghost use Rattle.transcribe.specs.declared.faults.TranscribeFault.TheVariants.{Memory};
+ghost use Rattle.transcribe.specs.declared.faults.TranscribeFault.TheVariants.{Form, Memory};
 
 use refusals::CarrierFault;
 use std::alloc::AllocError;
@@ -11,6 +11,14 @@ pub enum TranscribeFault {
     Form(CarrierFault),
     // There was no memory for the output.
     Memory,
+}
+
+impl From<CarrierFault> for TranscribeFault {
+    ghost from_gives = { λ fault r. r ≡ Form fault };
+
+    fn from(fault: CarrierFault) -> TranscribeFault {
+        TranscribeFault::Form(fault)
+    }
 }
 
 impl From<AllocError> for TranscribeFault {

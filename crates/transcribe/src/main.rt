@@ -5,7 +5,7 @@ mod faults;
 mod names;
 mod transcription;
 
-use anyhow::anyhow;
+use anyhow::{Context, anyhow, ensure};
 use faults::TranscribeFault;
 use names::FormName;
 use std::env;
@@ -16,54 +16,38 @@ use transcription::transcribe;
 const USAGE: &str = "usage: transcribe FROM TO, each one of flat, lined, hexadecimal";
 
 fn form_argument(word: Option<String>) -> anyhow::Result<FormName> {
-    let Some(word) = word else {
-        return Err(anyhow!(USAGE));
-    };
-    match FormName::named(word.as_str()) {
-        Some(form) => Ok(form),
-        None => Err(anyhow!(USAGE)),
-    }
+    let word = word.context(USAGE)?;
+    word.as_str().parse().ok().context(USAGE)
 }
 
-fn explain(rt: &HostRuntime, from: FormName, fault: TranscribeFault) -> anyhow::Result<()> {
+fn explain(from: FormName, fault: TranscribeFault) -> anyhow::Error {
     match fault {
         TranscribeFault::Form(broken) => {
             let refusal = broken.refusal();
             let number = refusal.number;
             let at = refusal.first;
-            let form = from.word();
-            let text = format!(in rt.alloc();
-                "refusal {number} at byte {at}: the input breaks the {form} form there"
-            )?;
-            Err(anyhow!(text))
+            anyhow!("refusal {number} at byte {at}: the input breaks the {from} form there")
         }
-        TranscribeFault::Memory => Err(anyhow!("not enough memory for the output")),
+        TranscribeFault::Memory => anyhow!("not enough memory for the output"),
     }
 }
 
 fn run(rt: &HostRuntime) -> anyhow::Result<()> {
-    let mut words = env::args(rt)?;
-    let _ = words.next();
+    let mut words = env::args(rt)?.skip(1);
     let from = form_argument(words.next())?;
     let to = form_argument(words.next())?;
-    if words.next().is_some() {
-        return Err(anyhow!(USAGE));
-    }
+    ensure!(words.next().is_none(), USAGE);
     let mut input = Vec::new(rt.alloc());
     rt.stdin().read_to_end(&mut input)?;
-    match transcribe(rt.alloc(), from, to, input.as_slice()) {
-        Ok(transcript) => {
-            rt.stdout().write_all(transcript.bytes.as_slice())?;
-            let rows = transcript.rows;
-            let source = from.word();
-            let target = to.word();
-            eprintln!(rt; "{rows} rows, {source} to {target}")?;
-            Ok(())
-        }
-        Err(fault) => explain(rt, from, fault),
-    }
+    let answer = transcribe(rt.alloc(), from, to, input.as_slice());
+    let transcript = answer.map_err(|fault| explain(from, fault))?;
+    rt.stdout().write_all(transcript.bytes.as_slice())?;
+    let rows = transcript.rows;
+    eprintln!(rt; "{rows} rows, {from} to {to}")?;
+    Ok(())
 }
 
+// A main that hands its error on would print it in another form, and one function for the four programs that end so would need a crate of its own.
 fn main(rt: HostRuntime) -> ExitCode {
     match run(&rt) {
         Ok(()) => ExitCode::SUCCESS,

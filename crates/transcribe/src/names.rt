@@ -1,6 +1,9 @@
 // The words for the forms.
-ghost use Rattle.std.specs.Prelude.{◌≡◌, MatchOption};
+ghost use Rattle.std.specs.Prelude.{◌≡◌, MatchResult, Some};
 ghost use Rattle.transcribe.specs.Transcribed.{word_of, NoWord};
+
+use std::fmt;
+use std::str::FromStr;
 
 #[derive(Clone, Copy, PartialEq, Eq, Debug)]
 pub enum FormName {
@@ -9,26 +12,33 @@ pub enum FormName {
     Hexadecimal,
 }
 
-impl FormName {
-    pub fn word(self) -> &'static str
-        ensures { result.now ≡ word_of self }
-    {
-        match self {
+// The word is no form's.
+#[derive(Clone, Copy, PartialEq, Eq, Debug)]
+pub struct UnknownForm;
+
+impl fmt::Display for FormName {
+    ghost output = { λ f. Some (word_of f) };
+
+    fn fmt<W: fmt::Write>(&self, f: &mut fmt::Formatter<W>) -> fmt::Result {
+        f.write_str(match self {
             FormName::Flat => "flat",
             FormName::Lined => "lined",
             FormName::Hexadecimal => "hexadecimal",
-        }
+        })
     }
+}
 
-    // The form that a word names, if it names one.
-    pub fn named(word: &str) -> Option<FormName>
-        ensures { MatchOption result (NoWord word.now) (λ f. word.now ≡ word_of f) }
-    {
+impl FromStr for FormName {
+    type Err = UnknownForm;
+
+    ghost from_str_gives = { λ word r. MatchResult r (λ f. word ≡ word_of f) (λ _. NoWord word) };
+
+    fn from_str(word: &str) -> Result<FormName, UnknownForm> {
         match word {
-            "flat" => Some(FormName::Flat),
-            "lined" => Some(FormName::Lined),
-            "hexadecimal" => Some(FormName::Hexadecimal),
-            _ => None,
+            "flat" => Ok(FormName::Flat),
+            "lined" => Ok(FormName::Lined),
+            "hexadecimal" => Ok(FormName::Hexadecimal),
+            _ => Err(UnknownForm),
         }
     }
 }

@@ -6,7 +6,7 @@ use crate::faults::TranscribeFault;
 use crate::names::FormName;
 use forms::{Flat, Form, Hexadecimal, Lined};
 use refusals::CarrierFault;
-use rows::{Filling, Opened, Source};
+use rows::{Opened, Source, write_all};
 use std::alloc::Global;
 
 // What was written, and how many rows it holds.
@@ -20,27 +20,23 @@ pub struct Transcript {
 fn memory_for<G: Form>(heap: Global, rows: usize) -> Result<Vec<u8>, TranscribeFault>
     ensures { RoomFor G.Form.size rows result }
 {
-    match rows.checked_mul(G::line_len()) {
-        Some(length) => Ok(Vec::from_elem(heap, 0u8, length)?),
-        None => Err(TranscribeFault::Memory),
-    }
+    let length = rows
+        .checked_mul(G::line_len())
+        .ok_or(TranscribeFault::Memory)?;
+    Ok(Vec::from_elem(heap, 0u8, length)?)
 }
 
-fn rewrite<F: Form, G: Filling>(heap: Global, input: &[u8]) -> Result<Transcript, TranscribeFault>
+fn rewrite<F: Form, G: Form>(heap: Global, input: &[u8]) -> Result<Transcript, TranscribeFault>
     ensures rewritten { Rewritten F.Form.size F.Form.encoded F.Form.decoded F.Form.good G.Form.encoded input.now result }
     ensures lacks { LacksRoom F.Form.good F.Form.size input.now result }
 {
-    let opened: Opened<F> = match Opened::open(input) {
-        Ok(opened) => opened,
-        Err(fault) => return Err(TranscribeFault::Form(fault)),
-    };
+    let opened: Opened<F> = Opened::open(input)?;
     let mut bytes = memory_for::<G>(heap, opened.count())?;
-    match G::write_all(&opened, bytes.as_mut_slice()) {
-        Ok(rows) => Ok(Transcript { rows, bytes }),
-        Err(fault) => Err(TranscribeFault::Form(fault)),
-    }
+    let rows = write_all::<G, _>(&opened, bytes.as_mut_slice())?;
+    Ok(Transcript { rows, bytes })
 }
 
+// A name chooses the type of a form, here and in `transcribe`: a trait with one generic method would be longer than these arms.
 fn rewrite_to<F: Form>(
     heap: Global,
     to: FormName,

@@ -1,5 +1,5 @@
 -- How an input begins: a letter and LF, or not.
-use Rattle.std.proofs.Common.{◌≡◌, ℕ, ◌<◌, ◌≤◌, Bool, true, false, cond, eqb, ◌⊎◌, List, [], ◌∷◌, length, get_or, drop, Some, None, Err, Option, sym, refl, ap, ◌∙◌, inl, inr, ⊎_elim, arith}
+use Rattle.std.proofs.Common.{◌≡◌, ℕ, ◌<◌, ◌≤◌, Bool, true, false, cond, eqb, ◌⊎◌, List, [], ◌∷◌, length, drop, Some, None, Err, Option, refl, ap, ◌∙◌, inl, inr, ⊎_elim, arith}
 use Rattle.std.proofs.lemmas.Bool.{cases_Bool, eqb-true, le-leb, lt-leb}
 use Rattle.books.specs.declared.letters.Letter.{Letter}
 use Rattle.books.specs.declared.letters.Letter.TheVariants.{P, Q, S}
@@ -30,11 +30,6 @@ is_headed (b ∷ (c ∷ bs)) l h =
     (λ t. let e : letter_of b ≡ Some l = rw t at h in ap (λ x. x ∷ (c ∷ bs)) (byte_is b l e) ∙ ap (λ x. byte_of l ∷ (x ∷ bs)) (eqb-true c 10 t))
     (λ f. let e : None ≡ Some l = rw f at h in let z : ◌≡◌ {A = ℕ} 0 1 = cc in absurd (omega arith))
     (cases_Bool (eqb c 10))
-
-pub begins : (input : List ℕ) (l : Letter) → 2 ≤ length input → byte_of l ≡ get_or input 0 0 → get_or input 1 0 ≡ 10 → input ≡ headed l (drop 2 input)
-begins [] l n e f = absurd (omega arith)
-begins (b ∷ []) l n e f = absurd (omega arith)
-begins (b ∷ (c ∷ bs)) l n e f = ap (λ x. x ∷ (c ∷ bs)) (sym e) ∙ ap (λ x. byte_of l ∷ (x ∷ bs)) f
 
 -- an input that is not too long is judged by its letter
 pub of_letter : (input : List ℕ) (l : Letter) (lines : List ℕ) → length input ≤ 60042 → input ≡ headed l lines → verdict_on input ≡ checked_lines (layout_of l) lines

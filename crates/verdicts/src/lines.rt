@@ -12,7 +12,7 @@ use files::checking::Accepted;
 use numbers::put_digits;
 use refusals::InputFault;
 
-// One line of text with its LF. Its numbers have fixed widths, so it is one of two lengths.
+// One line of text with its LF. Its numbers have fixed widths, so it is one of two lengths, and no length stands beside it.
 #[derive(Clone, Copy)]
 pub enum Line {
     // As `OK rows=00003 total=00000000000125000`.

@@ -18,15 +18,13 @@ use rows::Opened;
 pub const LARGEST_INPUT: usize = 60_042;
 
 fn check_lines<B: Book>(book: &B, lines: &[u8]) -> Result<Accepted, InputFault>
-    ensures { told result ≡ checked_lines B.Meant.meaning lines.now }
+    ensures { told result ≡ checked_lines B.meaning lines.now }
 {
-    let opened: Opened<Hexadecimal> = match Opened::open(lines) {
-        Ok(opened) => opened,
-        Err(fault) => return Err(InputFault::Form(fault)),
-    };
+    let opened: Opened<Hexadecimal> = Opened::open(lines)?;
     Ok(check(book, &opened)?)
 }
 
+// A trait with one generic method would say the book of a letter once for all programs, and be longer than these arms.
 fn check_book(letter: Letter, lines: &[u8]) -> Result<Accepted, InputFault>
     ensures { told result ≡ checked_lines (layout_of letter) lines.now }
 {
@@ -44,11 +42,11 @@ pub fn verdict(input: &[u8]) -> Result<Accepted, InputFault>
     if input.len() > LARGEST_INPUT {
         return Err(InputFault::TooLong);
     }
-    if input.len() < 2 || input[1] != b'\n' {
+    let [letter, b'\n', lines @ ..] = input else {
         return Err(InputFault::NoBook);
-    }
-    match Letter::read(input[0]) {
-        Some(letter) => check_book(letter, &input[2..]),
-        None => Err(InputFault::NoBook),
+    };
+    match Letter::try_from(*letter) {
+        Ok(letter) => check_book(letter, lines),
+        Err(_) => Err(InputFault::NoBook),
     }
 }

@@ -7,6 +7,8 @@ use Rattle.drafts.proofs.running.run.Given as goal
 -- what the calls that are left come to, the whole run comes to
 abbrev pub invariant-loop-request : goal.invariant-loop-request
 invariant-loop-request g l =
-    (l.accepted ≤ l.request-index)
-    × Wrote g.C.Source.rows g.C.Carrier.memory g.C.Carrier.lenders g.C.Carrier.size g.C.Carrier.line l.initial.draft l.draft
-    × ((n : ℕ) (d : Draft g.row.B.Denot g.row.C.Denot) → Ran g.B.Meant.meaning g.C.Source.rows g.C.Carrier.places l.draft (map asked_in (drop l.request-index l.requests)) n d → Ran g.B.Meant.meaning g.C.Source.rows g.C.Carrier.places l.initial.draft (map asked_in l.requests) (l.accepted + n) d)
+    record {
+      within : l.accepted ≤ l.request-index;
+      wrote : Wrote g.C.Source.rows g.C.Carrier.memory g.C.Carrier.lenders g.C.Carrier.size g.C.Carrier.line l.initial.draft l.draft;
+      ran : (n : ℕ) (d : Draft g.row.B.Denot g.row.C.Denot) → Ran g.B.Book.meaning g.C.Source.rows g.C.Carrier.places l.draft (map asked_in (drop l.request-index l.requests)) n d → Ran g.B.Book.meaning g.C.Source.rows g.C.Carrier.places l.initial.draft (map asked_in l.requests) (l.accepted + n) d;
+    }

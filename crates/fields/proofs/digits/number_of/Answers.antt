@@ -2,9 +2,6 @@ use Rattle.std.proofs.Common.{◌-◌, get_or, arith}
 use Rattle.fields.proofs.Reading as reading
 use Rattle.fields.proofs.digits.number_of.Goals as goal
 
-pub loop-digit-init : goal.loop-digit-init
-loop-digit-init c = reading.start c.args.digits.now
-
 pub overflow_sub-number : goal.overflow_sub-number
 overflow_sub-number c = (reading.digit_at c.args.digits.now c.requires.good c.loop-digit.digit-index (omega arith)).0
 
@@ -19,6 +16,3 @@ overflow_add-number c =
 
 pub loop-digit-preserved : goal.loop-digit-preserved
 loop-digit-preserved c = reading.more c.args.digits.now c.loop-digit.digit-index c.loop-digit.number c.requires.good (omega arith) c.loop-digit.invariant
-
-pub returns : goal.returns
-returns c = reading.done c.args.digits.now c.loop-digit.digit-index c.loop-digit.number (omega arith) c.loop-digit.invariant

@@ -1,60 +1,64 @@
-use Rattle.std.proofs.Common.{◌≡◌, ◌+◌, ◌-◌, ◌<◌, ◌≤◌, [], length, get_or, Err, sym, refl, ap, ◌∙◌, subst, arith}
+use Rattle.std.proofs.Common.{◌≡◌, ◌+◌, ◌-◌, ◌≤◌, length, Err, refl, ap, ◌∙◌, arith}
 use Rattle.std.proofs.lemmas.Result.{err_from_is_err_and}
 use Rattle.refusals.specs.Refusals.{of_file}
 use Rattle.legality.specs.File.{checked}
 use Rattle.files.specs.Told.{told}
-use Rattle.standings.specs.Standing.{Stands}
 use Rattle.legality.proofs.Law.{file_law}
-use Rattle.files.proofs.Stages.{entries_to, entries_more, checked_more, checked_stops, checked_all}
+use Rattle.files.proofs.Stages.{entries_to, taken_more, taken_stops, taken_all}
 use Rattle.files.proofs.Telling.{backed, passes}
 use Rattle.files.proofs.checking.check.Goals as goal
+use Rattle.files.proofs.checking.check.Goals.{else-loop-n-test, then-loop-n-test+in_ok-take_row+else-n-count}
 
-pub loop-i-init : goal.loop-i-init
-loop-i-init g c = (c.new-progress.ensures g.B.Meant.meaning, refl)
+pub loop-n-init : goal.loop-n-init
+loop-n-init g c = record { stands = c.new-progress.ensures g.B.Book.meaning; rest = refl }
+
+pub loop-n-preserved : goal.loop-n-preserved
+loop-n-preserved g c =
+    let l = g.B.Book.meaning in
+    let rows = g.S.Source.rows c.args.source.now in
+    let n = c.loop-n.n in
+    let back : n + 1 - 1 ≡ n = omega arith in
+    let h = c.in_ok-take_row.ensures (entries_to l rows (n - 1)) c.loop-n.invariant.stands in
+    rw back (taken_more l rows n _ _ _ _ c.unwrap.ensures c.copy_row.ensures c.loop-n.progress c.loop-n.invariant _ h.0 h.1)
 
 pub returns-in_err-take_row : goal.returns-in_err-take_row
 returns-in_err-take_row g c =
-    let l = g.B.Meant.meaning in
-    let rows = g.S.Source.rows c.args.source.now in
-    let i = c.loop-i.i in
-    let inv = c.loop-i.invariant in
-    let copied = c.in-Ok.ensures in
-    let less : i < length rows = omega (arith, copied.1) in
-    let back : i + 1 - 1 ≡ i = omega arith in
-    let is = copied.2 ∙ ap (λ k. get_or rows k []) back in
+    let l = g.B.Book.meaning in
+    let law = g.met.B.Book.lawful in
+    let source = c.args.source.now in
+    let rows = g.S.Source.rows source in
+    let n = c.loop-n.n in
     let p = err_from_is_err_and c.from_residual.result c.from_residual.ensures.1 in
-    let stop = checked_stops l rows i less _ is _ (c.in_err-take_row.ensures (entries_to l rows i) inv.0) in
-    let answer : told c.from_residual.result ≡ checked l rows = ap told p.1 ∙ ap (λ f. Err (of_file f)) p.2 ∙ sym stop ∙ inv.1 in
+    let stop = taken_stops l rows n _ _ _ _ c.unwrap.ensures c.copy_row.ensures c.loop-n.progress c.loop-n.invariant _ (c.in_err-take_row.ensures (entries_to l rows (n - 1)) c.loop-n.invariant.stands) in
+    let answer : told c.from_residual.result ≡ checked l rows = ap told p.1 ∙ ap (λ f. Err (of_file f)) p.2 ∙ stop in
     record {
       answer = answer;
-      law = file_law l g.B.Meant.lawful;
-      backed = backed l g.B.Meant.lawful rows (g.S.Source.whole c.args.source.now) c.from_residual.result answer;
-      passes = passes l g.B.Meant.lawful rows (g.S.Source.whole c.args.source.now) c.from_residual.result answer;
+      law = file_law l law;
+      backed = backed l law rows (g.S.Source.whole source) c.from_residual.result answer;
+      passes = passes l law rows (g.S.Source.whole source) c.from_residual.result answer;
     }
-
-pub loop-i-preserved : goal.loop-i-preserved
-loop-i-preserved g c =
-    let l = g.B.Meant.meaning in
-    let rows = g.S.Source.rows c.args.source.now in
-    let i = c.loop-i.i in
-    let inv = c.loop-i.invariant in
-    let copied = c.in-Ok.ensures in
-    let less : i < length rows = omega (arith, copied.1) in
-    let back : i + 1 - 1 ≡ i = omega arith in
-    let is = copied.2 ∙ ap (λ k. get_or rows k []) back in
-    let h = c.in_ok-take_row.ensures (entries_to l rows i) inv.0 in
-    (subst (Stands l _) (sym (entries_more l rows i less _ is)) h.1, checked_more l rows i less _ is h.0 ∙ inv.1)
 
 pub returns : goal.returns
 returns g c =
-    let l = g.B.Meant.meaning in
-    let rows = g.S.Source.rows c.args.source.now in
-    let inv = c.loop-i.invariant in
-    let end : length rows ≤ c.loop-i.i = omega (arith, c.count-count.ensures) in
-    let answer = c.finish.ensures (entries_to l rows c.loop-i.i) inv.0 ∙ sym (checked_all l rows c.loop-i.i end) ∙ inv.1 in
+    let l = g.B.Book.meaning in
+    let law = g.met.B.Book.lawful in
+    let source = c.args.source.now in
+    let rows = g.S.Source.rows source in
+    let n = c.loop-n.n in
+    let answer : told c.finish.result ≡ checked l rows =
+    elim c.loop-n-test.branch [
+      | else-loop-n-test w ↦
+          let end : length rows ≤ n - 1 = omega (arith, c.count-count.ensures) in
+          taken_all l rows (n - 1) c.loop-n.progress _ w.progress-is end c.loop-n.invariant _ c.finish.ensures
+      | then-loop-n-test+in_ok-take_row+else-n-count w ↦
+          let end : length rows ≤ n = omega (arith, c.count-count.ensures) in
+          let h = w.in_ok-take_row.ensures (entries_to l rows (n - 1)) c.loop-n.invariant.stands in
+          let taken = taken_more l rows n _ _ _ _ w.unwrap.ensures w.copy_row.ensures c.loop-n.progress c.loop-n.invariant _ h.0 h.1 in
+          taken_all l rows n _ _ w.progress-is end taken _ c.finish.ensures
+    ] in
     record {
       answer = answer;
-      law = file_law l g.B.Meant.lawful;
-      backed = backed l g.B.Meant.lawful rows (g.S.Source.whole c.args.source.now) _ answer;
-      passes = passes l g.B.Meant.lawful rows (g.S.Source.whole c.args.source.now) _ answer;
+      law = file_law l law;
+      backed = backed l law rows (g.S.Source.whole source) _ answer;
+      passes = passes l law rows (g.S.Source.whole source) _ answer;
     }

@@ -4,7 +4,7 @@ use Rattle.numbers.specs.Dates.{is_date}
 use Rattle.numbers.proofs.Calendar.{date_law}
 use Rattle.numbers.proofs.dates.is_date.Goals as goal
 
-pub returns-else-number-eq0 : goal.returns-else-number-eq0
-returns-else-number-eq0 c =
+pub returns-else-number-eq0-clause-calendar : goal.returns-else-number-eq0-clause-calendar
+returns-else-number-eq0-clause-calendar c =
     let e : c.is_on_calendar.result ≡ is_date c.args.number = search rules in
-    record { test = e; calendar = Decides-at c.is_on_calendar.result (is_date c.args.number) e (date_law c.args.number) }
+    Decides-at c.is_on_calendar.result (is_date c.args.number) e (date_law c.args.number)

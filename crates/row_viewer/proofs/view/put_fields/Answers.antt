@@ -1,17 +1,9 @@
-use Rattle.std.proofs.Common.{arith}
-use Rattle.layouts.proofs.Within.{unread, as_many, read_inside}
+use Rattle.std.proofs.Common.{rules}
+use Rattle.layouts.proofs.Within.{paired_inside}
 use Rattle.row_viewer.proofs.view.put_fields.Goals as goal
 
-pub bounds-names-i : goal.bounds-names-i
-bounds-names-i g c = omega (arith, as_many _ _ c.fields-fields.ensures, c.names-names.ensures)
-
 -- the covering law keeps a field within the row
-pub put_name-requires : goal.put_name-requires
-put_name-requires g c =
-    let h = read_inside g.B.Meant.meaning g.B.Meant.lawful c.args.kind.mark c.fields-fields.result.now c.fields-fields.ensures c.loop-i.i unread c.loop-i-test.true in
-    (h.from, h.to)
-
-pub put_content-requires : goal.put_content-requires
-put_content-requires g c =
-    let h = read_inside g.B.Meant.meaning g.B.Meant.lawful c.args.kind.mark c.fields-fields.result.now c.fields-fields.ensures c.loop-i.i unread c.loop-i-test.true in
-    (h.from, h.to)
+pub invariant_of-placed : goal.invariant_of-placed
+invariant_of-placed g c =
+    let h = paired_inside g.B.Book.meaning g.met.B.Book.lawful c.args.kind.mark c.fields-fields.result.now c.names-names.result.now c.fields-fields.ensures c.loop-field.yielded c.into_iter-field-iterator.result c.loop-field.field-iterator c.next.new.self _ (search rules) (search rules) c.loop-field.yielded_by _ c.in-Some.is c.next.ensures.steps in
+    record { from = h.from; to = h.to }

@@ -1,62 +1,38 @@
-use Rattle.std.proofs.Common.{◌≡◌, ◌+◌, ◌-◌, ◌≤◌, ◌++◌, length, take, ap, ◌∙◌, arith}
-use Rattle.std.proofs.lemmas.List.{take_all}
-use Rattle.std.proofs.lemmas.Result.{err_from_is_err_and}
-use Rattle.refusals.specs.Refusals.{refusal}
+use Rattle.std.proofs.Common.{◌≡◌, ℕ, ◌+◌, ◌-◌, length, take, ap, ◌∙◌, arith}
+use Rattle.std.proofs.lemmas.Grind.{common_steps}
+use Rattle.std.proofs.lemmas.List.{length-append}
 use Rattle.rows.specs.Rows.{put_all}
-use Rattle.rows.proofs.Steps.{one_more, held_now, put_more}
+use Rattle.rows.proofs.Steps.{held_now, put_more}
+use Rattle.rows.proofs.copying.copy_all.Given as given
 use Rattle.rows.proofs.copying.copy_all.Goals as goal
+use Rattle.rows.proofs.copying.copy_all.Goals.{In_ok-push}
 
-pub returns-in_err-push : goal.returns-in_err-push
-returns-in_err-push g c =
-    let h = c.in_err-push.ensures in
-    let inv = c.loop-i.invariant in
-    let full = h.pushed in
-    let from = g.S.Source.rows c.args.from.now in
-    let start = g.C.Source.rows c.args.to.now in
-    let mid = g.C.Source.rows c.loop-i.to in
-    let places = g.C.Carrier.places c.args.to.now in
-    let same : g.C.Source.rows c.push.new.self ≡ mid = ap g.C.Source.rows h.kept in
-    let len : length mid ≡ length start + c.loop-i.i = held_now start mid from c.loop-i.i (omega (arith, c.count-count.ensures)) inv.0 in
-    let free : c.loop-i.i ≡ places - length start = omega (arith, inv.2, inv.4, full.1) in
-    let n : c.loop-i.i ≡ length (g.C.Source.rows c.push.new.self) - length start = omega (arith, ap length same) in
-    let p = err_from_is_err_and c.from_residual-in_err-push.result c.from_residual-in_err-push.ensures.1 in
-    rw (p.1, p.2) (record {
-      moved = (full.0 ∙ ap (λ k. refusal 2 k 0) inv.2, omega (arith, c.count-count.ensures), same ∙ inv.0 ∙ ap (λ k. start ++ take k from) free);
-      memory = h.memory ∙ inv.1 ∙ ap (λ k. put_all g.C.Carrier.size g.C.Carrier.line (g.C.Carrier.memory c.args.to.now) (length start) (take k from)) n;
-      places = h.places ∙ inv.2;
-      lenders = h.lenders ∙ inv.3;
-    })
+held : (g : given.Over) (c : In_ok-push g) → length (g.C.Source.rows c.loop-n.to) ≡ length (g.C.Source.rows c.args.to.now) + (c.loop-n.n - 1)
+held g c = held_now _ _ (g.S.Source.rows c.args.from.now) (c.loop-n.n - 1) (omega (arith, c.in_ok-copy_row.ensures.1)) c.loop-n.invariant.rows
 
-pub loop-i-preserved : goal.loop-i-preserved
-loop-i-preserved g c =
-    let h = c.in_ok-push.ensures in
-    let k = c.in_ok-copy_row.ensures in
-    let inv = c.loop-i.invariant in
-    let from = g.S.Source.rows c.args.from.now in
-    let start = g.C.Source.rows c.args.to.now in
-    let mid = g.C.Source.rows c.loop-i.to in
-    let len : length mid ≡ length start + c.loop-i.i = held_now start mid from c.loop-i.i (omega (arith, k.1)) inv.0 in (
-      one_more start mid _ from c.loop-i.i _ _ k.1 inv.0 k.2 h.pushed.1,
-      put_more g.C.Carrier.size g.C.Carrier.line _ _ _ (length start) (length mid) c.loop-i.i from _ _ k.1 len inv.1 k.2 h.memory,
-      h.places ∙ inv.2,
-      h.lenders ∙ inv.3,
-      omega (arith, h.pushed.0, inv.2),
-    )
+-- what the memory holds behind an accepted row; `upto` is the row's number
+memory_more : (g : given.Over) (c : In_ok-push g) (upto : ℕ) → upto ≡ c.loop-n.n → g.C.Carrier.memory c.push.new.self ≡ put_all g.C.Carrier.size g.C.Carrier.line (g.C.Carrier.memory c.args.to.now) (length (g.C.Source.rows c.args.to.now)) (take upto (g.S.Source.rows c.args.from.now))
+memory_more g c upto is =
+    let row = c.in_ok-copy_row.ensures in
+    put_more g.C.Carrier.size g.C.Carrier.line _ _ _ _ _ c.loop-n.n upto _ _ _ is row.0 row.1 (held g c) c.loop-n.invariant.memory row.2 c.in_ok-push.ensures.memory
 
-pub returns : goal.returns
-returns g c =
-    let from = g.S.Source.rows c.args.from.now in
-    let start = g.C.Source.rows c.args.to.now in
-    let inv = c.loop-i.invariant in
-    let le : length from ≤ c.loop-i.i = omega (arith, c.count-count.ensures) in
-    let all = take_all c.loop-i.i from le in
-    let rows : g.C.Source.rows c.loop-i.to ≡ start ++ from = inv.0 ∙ ap (λ t. start ++ t) all in
-    let is : c.loop-i.i ≡ length from = omega (arith, c.count-count.ensures) in
-    let len : length (g.C.Source.rows c.loop-i.to) ≡ length start + c.loop-i.i = held_now start _ from c.loop-i.i (omega arith) inv.0 in
-    let n : c.loop-i.i ≡ length (g.C.Source.rows c.loop-i.to) - length start = omega arith in
+pub loop-n-preserved : goal.loop-n-preserved
+loop-n-preserved g c =
+    let kept = c.loop-n.invariant in
+    let here = (goal.at.loop-n-preserved g c).In_ok-push in
+    let pushed = c.in_ok-push.ensures in
     record {
-      moved = (c.count-count.ensures, omega (arith, inv.4), rows);
-      memory = inv.1 ∙ ap (λ k. put_all g.C.Carrier.size g.C.Carrier.line (g.C.Carrier.memory c.args.to.now) (length start) (take k from)) n;
-      places = inv.2;
-      lenders = inv.3;
+      rows = grind (arith, common_steps);
+      memory = memory_more g here (c.loop-n.n + 1 - 1) (omega arith);
+      places = pushed.places ∙ kept.places;
+      lenders = pushed.lenders ∙ kept.lenders;
+      free = omega (arith, held g here, pushed.pushed.0);
     }
+
+pub returns-in_ok-push-clause-memory : goal.returns-in_ok-push-clause-memory
+returns-in_ok-push-clause-memory g c =
+    let here = (goal.at.returns-in_ok-push-clause-memory g c).In_ok-push in
+    let mid = g.C.Source.rows c.loop-n.to in
+    let after = g.C.Source.rows c.push.new.self in
+    let one : length after ≡ length mid + 1 = simp length-append at (ap length c.in_ok-push.ensures.pushed.1) in
+    memory_more g here (length after - length (g.C.Source.rows c.args.to.now)) (omega (arith, held g here))

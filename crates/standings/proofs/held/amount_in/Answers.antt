@@ -4,9 +4,9 @@ use Rattle.records.specs.Held.{cell_in}
 use Rattle.standings.proofs.Holding.{amount_held}
 use Rattle.standings.proofs.held.amount_in.Goals as goal
 
-pub returns : goal.returns
-returns g c good here =
-    let l = g.B.Meant.meaning in
-    let row = c.args.row.now in
+pub returns-in-Some : goal.returns-in-Some
+returns-in-Some g c read =
+    let l = g.B.Book.meaning in
+    let row = c.args.next.row.now in
     c.number_in.ensures ∙ ap (λ f. number_in (cell_in f row)) c.field_of.ensures
-    ∙ amount_held l g.B.Meant.lawful row good c.args.kind.mark here l.summed refl c.in-Some.place c.in-Some.ensures (search rules)
+    ∙ amount_held l g.met.B.Book.lawful row read.good c.args.next.kind.mark read.marked l.summed refl c.in-Some.place c.in-Some.ensures (search rules)

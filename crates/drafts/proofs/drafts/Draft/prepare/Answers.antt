@@ -1,148 +1,84 @@
-use Rattle.std.proofs.Common.{◌+◌, [], ◌∷◌, length, Some, None, sym, ap, ◌∙◌}
+use Rattle.std.proofs.Common.{Some, refl, ap, ◌∙◌}
 use Rattle.std.proofs.lemmas.Result.{err_from_is_err_and}
-use Rattle.refusals.specs.Faults.{in_row}
-use Rattle.records.specs.Row.{fields11, conditions15}
-use Rattle.records.specs.Entries.{handed_of, meant}
-use Rattle.refusals.specs.Refusals.{of_row, of_entry, of_file}
-use Rattle.records.specs.Worked.{worked_of}
-use Rattle.records.proofs.Options.{all_none, some_none}
-use Rattle.legality.specs.Checks.{owner22, sum26}
-use Rattle.drafts.specs.Standing.{contents}
-use Rattle.drafts.proofs.Stops.{stops}
-use Rattle.drafts.proofs.Preparing.{unworked, nothing_fits, at_fields, row_printed, at_conditions, good_row, marked, at_owner, at_sum, summed, small, fit_row}
+use Rattle.drafts.proofs.Preparing.{stops_printing, stops_judging, reads, stops_tying, stops_summing, all_pass, total_is, prints_again, fits}
 use Rattle.drafts.proofs.drafts.Draft.prepare.Goals as goal
 
 pub returns-in_err-print : goal.returns-in_err-print
 returns-in_err-print g c =
-    let l = g.B.Meant.meaning in
-    let law = g.B.Meant.lawful in
-    let h = handed_of c.args.entry in
-    let n = c.args.admitted.row_number in
-    let m = c.args.admitted.kind.mark in
     let p = err_from_is_err_and c.from_residual.result c.from_residual.ensures.1 in
     rw p.1 (record {
-      refused = λ v s ready.
-          let k = length v.entries + 1 in
-          ap Some p.2.0 ∙ (stops [] (in_row k (fields11 l (meant h))) (in_row k (conditions15 l (meant h)) ∷ (in_row k (owner22 l v.entries (meant h)) ∷ (in_row k (sum26 l v.entries (meant h)) ∷ []))) _ tt
-          (at_fields l law v h n m ready (Some (of_entry c.in_err-print.field-0.0)) (worked_of unworked) nothing_fits c.in_err-print.ensures.refused));
+      refused = λ v s ready. ap Some p.2.0 ∙ stops_printing _ g.met.B.Book.lawful v _ _ _ ready _ c.in_err-print.ensures.refused;
       fit = λ v s ready. tt;
     })
 
 pub returns-in_err-judge : goal.returns-in_err-judge
 returns-in_err-judge g c =
-    let l = g.B.Meant.meaning in
-    let law = g.B.Meant.lawful in
-    let h = handed_of c.args.entry in
-    let n = c.args.admitted.row_number in
-    let m = c.args.admitted.kind.mark in
+    let print = c.in_ok-print.ensures in
     let p = err_from_is_err_and c.from_residual-in_err-judge.result c.from_residual-in_err-judge.ensures.1 in
     rw (p.1, p.2) (record {
-      refused = λ v s ready.
-          let k = length v.entries + 1 in
-          let is = row_printed l law v h n m ready _ c.print.new.row c.in_ok-print.ensures.printed in
-          let fields = at_fields l law v h n m ready None (worked_of unworked) nothing_fits c.in_ok-print.ensures.refused in
-          stops (in_row k (fields11 l (meant h)) ∷ []) (in_row k (conditions15 l (meant h))) (in_row k (owner22 l v.entries (meant h)) ∷ (in_row k (sum26 l v.entries (meant h)) ∷ [])) _ ((sym fields), tt)
-          (at_conditions l law v h n m ready _ c.print.new.row is (Some (of_row c.in_err-judge.field-0.0)) c.in_err-judge.ensures.refused);
+      refused = λ v s ready. stops_judging _ g.met.B.Book.lawful v _ _ _ ready _ print.refused print.printed _ c.in_err-judge.ensures.refused;
       fit = λ v s ready. tt;
     })
 
 pub returns-in_err-tie : goal.returns-in_err-tie
 returns-in_err-tie g c =
-    let l = g.B.Meant.meaning in
-    let law = g.B.Meant.lawful in
-    let h = handed_of c.args.entry in
-    let n = c.args.admitted.row_number in
-    let m = c.args.admitted.kind.mark in
+    let law = g.met.B.Book.lawful in
+    let print = c.in_ok-print.ensures in
+    let judged = c.in_ok-judge.ensures.refused in
     let p = err_from_is_err_and c.from_residual-in_err-tie.result c.from_residual-in_err-tie.ensures.1 in
     rw (p.1, p.2) (record {
       refused = λ v s ready.
-          let k = length v.entries + 1 in
-          let is = row_printed l law v h n m ready _ c.print.new.row c.in_ok-print.ensures.printed in
-          let fields = at_fields l law v h n m ready None (worked_of unworked) nothing_fits c.in_ok-print.ensures.refused in
-          let keeps = at_conditions l law v h n m ready _ c.print.new.row is None c.in_ok-judge.ensures.refused in
-          let good = good_row l law v h n m ready _ c.print.new.row is keeps in
-          let mark = marked l law v h n m ready _ c.print.new.row is in
-          stops (in_row k (fields11 l (meant h)) ∷ (in_row k (conditions15 l (meant h)) ∷ [])) (in_row k (owner22 l v.entries (meant h))) (in_row k (sum26 l v.entries (meant h)) ∷ []) _ ((sym fields), ((sym keeps), tt))
-          (at_owner l law v h n m ready _ c.print.new.row is (Some (of_file c.in_err-tie.field-0.0)) (c.in_err-tie.ensures v.entries s.1 good mark));
+          stops_tying _ law v _ _ _ ready _ print.refused print.printed judged _
+          (c.in_err-tie.ensures v.entries s.1 (reads _ law v _ _ _ ready _ print.refused print.printed judged _ refl refl));
       fit = λ v s ready. tt;
     })
 
 pub returns-in_err-sum : goal.returns-in_err-sum
 returns-in_err-sum g c =
-    let l = g.B.Meant.meaning in
-    let law = g.B.Meant.lawful in
-    let h = handed_of c.args.entry in
-    let n = c.args.admitted.row_number in
-    let m = c.args.admitted.kind.mark in
+    let law = g.met.B.Book.lawful in
+    let print = c.in_ok-print.ensures in
+    let judged = c.in_ok-judge.ensures.refused in
     let p = err_from_is_err_and c.from_residual-in_err-sum.result c.from_residual-in_err-sum.ensures.1 in
     rw (p.1, p.2) (record {
       refused = λ v s ready.
-          let k = length v.entries + 1 in
-          let is = row_printed l law v h n m ready _ c.print.new.row c.in_ok-print.ensures.printed in
-          let fields = at_fields l law v h n m ready None (worked_of unworked) nothing_fits c.in_ok-print.ensures.refused in
-          let keeps = at_conditions l law v h n m ready _ c.print.new.row is None c.in_ok-judge.ensures.refused in
-          let good = good_row l law v h n m ready _ c.print.new.row is keeps in
-          let mark = marked l law v h n m ready _ c.print.new.row is in
-          let owner = at_owner l law v h n m ready _ c.print.new.row is None (c.in_ok-tie.ensures v.entries s.1 good mark) in
-          stops (in_row k (fields11 l (meant h)) ∷ (in_row k (conditions15 l (meant h)) ∷ (in_row k (owner22 l v.entries (meant h)) ∷ []))) (in_row k (sum26 l v.entries (meant h))) [] _ ((sym fields), ((sym keeps), ((sym owner), tt)))
-          (at_sum l law v h n m ready _ c.print.new.row is (Some (of_file c.in_err-sum.field-0.0)) (c.in_err-sum.ensures.refused v.entries s.1 good mark));
+          let read = reads _ law v _ _ _ ready _ print.refused print.printed judged _ refl refl in
+          stops_summing _ law v _ _ _ ready _ print.refused print.printed judged (c.in_ok-tie.ensures v.entries s.1 read) _ (c.in_err-sum.ensures.refused v.entries s.1 read);
       fit = λ v s ready. tt;
     })
 
 pub returns-in_err-print-2 : goal.returns-in_err-print-2
 returns-in_err-print-2 g c =
-    let l = g.B.Meant.meaning in
-    let law = g.B.Meant.lawful in
-    let h = handed_of c.args.entry in
-    let n = c.args.admitted.row_number in
-    let m = c.args.admitted.kind.mark in
+    let law = g.met.B.Book.lawful in
+    let print = c.in_ok-print.ensures in
+    let judged = c.in_ok-judge.ensures.refused in
+    let sum = c.in_ok-sum.ensures in
     let p = err_from_is_err_and c.from_residual-in_err-print-2.result c.from_residual-in_err-print-2.ensures.1 in
     rw p.1 (record {
       refused = λ v s ready.
-          let k = length v.entries + 1 in
-          let is = row_printed l law v h n m ready _ c.print.new.row c.in_ok-print.ensures.printed in
-          let fields = at_fields l law v h n m ready None (worked_of unworked) nothing_fits c.in_ok-print.ensures.refused in
-          let keeps = at_conditions l law v h n m ready _ c.print.new.row is None c.in_ok-judge.ensures.refused in
-          let good = good_row l law v h n m ready _ c.print.new.row is keeps in
-          let mark = marked l law v h n m ready _ c.print.new.row is in
-          let owner = at_owner l law v h n m ready _ c.print.new.row is None (c.in_ok-tie.ensures v.entries s.1 good mark) in
-          let sum = at_sum l law v h n m ready _ c.print.new.row is None (c.in_ok-sum.ensures.refused v.entries s.1 good mark) in
-          let sums = summed l law v h n m ready _ c.print.new.row is _ (c.in_ok-sum.ensures.sum v.entries s.1 good mark) in
-          let same = c.worked-worked.ensures.all v.entries (meant h) s.1 ready.next ready.marked sums in
-          let again = at_fields l law v h n m ready (Some (of_entry c.in_err-print-2.field-0.0)) (worked_of c.worked-worked.result) (small l law v h n m ready sum (worked_of c.worked-worked.result) same) c.in_err-print-2.ensures.refused in
-          some_none (again ∙ sym fields);
+          let read = reads _ law v _ _ _ ready _ print.refused print.printed judged _ refl refl in
+          let tied = c.in_ok-tie.ensures v.entries s.1 read in
+          let added = sum.refused v.entries s.1 read in
+          let sums = sum.sum v.entries s.1 read in
+          let total = total_is _ law v _ _ _ ready _ print.refused print.printed judged tied added _ sums in
+          ap Some p.2.0 ∙ prints_again _ law v _ _ _ ready _ print.refused print.printed judged tied added _ sums c.worked-worked.result (c.worked-worked.ensures.all v.entries _ s.1 ready.next ready.marked total) _ c.in_err-print-2.ensures.refused;
       fit = λ v s ready. tt;
     })
 
 pub returns : goal.returns
 returns g c =
-    let l = g.B.Meant.meaning in
-    let law = g.B.Meant.lawful in
-    let h = handed_of c.args.entry in
-    let n = c.args.admitted.row_number in
-    let m = c.args.admitted.kind.mark in
+    let law = g.met.B.Book.lawful in
+    let print = c.in_ok-print.ensures in
+    let judged = c.in_ok-judge.ensures.refused in
+    let sum = c.in_ok-sum.ensures in
     record {
       refused = λ v s ready.
-          let k = length v.entries + 1 in
-          let is = row_printed l law v h n m ready _ c.print.new.row c.in_ok-print.ensures.printed in
-          let fields = at_fields l law v h n m ready None (worked_of unworked) nothing_fits c.in_ok-print.ensures.refused in
-          let keeps = at_conditions l law v h n m ready _ c.print.new.row is None c.in_ok-judge.ensures.refused in
-          let good = good_row l law v h n m ready _ c.print.new.row is keeps in
-          let mark = marked l law v h n m ready _ c.print.new.row is in
-          let owner = at_owner l law v h n m ready _ c.print.new.row is None (c.in_ok-tie.ensures v.entries s.1 good mark) in
-          let sum = at_sum l law v h n m ready _ c.print.new.row is None (c.in_ok-sum.ensures.refused v.entries s.1 good mark) in
-          let sums = summed l law v h n m ready _ c.print.new.row is _ (c.in_ok-sum.ensures.sum v.entries s.1 good mark) in
-          sym (all_none (contents l v h) ((sym fields), ((sym keeps), ((sym owner), ((sym sum), tt)))));
+          let read = reads _ law v _ _ _ ready _ print.refused print.printed judged _ refl refl in
+          all_pass _ law v _ _ _ ready _ print.refused print.printed judged (c.in_ok-tie.ensures v.entries s.1 read) (sum.refused v.entries s.1 read) _ (sum.sum v.entries s.1 read);
       fit = λ v s ready.
-          let k = length v.entries + 1 in
-          let is = row_printed l law v h n m ready _ c.print.new.row c.in_ok-print.ensures.printed in
-          let fields = at_fields l law v h n m ready None (worked_of unworked) nothing_fits c.in_ok-print.ensures.refused in
-          let keeps = at_conditions l law v h n m ready _ c.print.new.row is None c.in_ok-judge.ensures.refused in
-          let good = good_row l law v h n m ready _ c.print.new.row is keeps in
-          let mark = marked l law v h n m ready _ c.print.new.row is in
-          let owner = at_owner l law v h n m ready _ c.print.new.row is None (c.in_ok-tie.ensures v.entries s.1 good mark) in
-          let sum = at_sum l law v h n m ready _ c.print.new.row is None (c.in_ok-sum.ensures.refused v.entries s.1 good mark) in
-          let sums = summed l law v h n m ready _ c.print.new.row is _ (c.in_ok-sum.ensures.sum v.entries s.1 good mark) in
-          let same = c.worked-worked.ensures.all v.entries (meant h) s.1 ready.next ready.marked sums in
-          fit_row l law v h n m ready (worked_of c.worked-worked.result) same c.print-2.new.row c.in_ok-print-2.ensures.printed keeps _ sums;
+          let read = reads _ law v _ _ _ ready _ print.refused print.printed judged _ refl refl in
+          let tied = c.in_ok-tie.ensures v.entries s.1 read in
+          let added = sum.refused v.entries s.1 read in
+          let sums = sum.sum v.entries s.1 read in
+          let total = total_is _ law v _ _ _ ready _ print.refused print.printed judged tied added _ sums in
+          fits _ law v _ _ _ ready _ print.refused print.printed judged tied added _ sums c.worked-worked.result (c.worked-worked.ensures.all v.entries _ s.1 ready.next ready.marked total) _ c.in_ok-print-2.ensures.printed;
     }

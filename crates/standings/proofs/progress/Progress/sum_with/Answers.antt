@@ -1,24 +1,13 @@
-use Rattle.records.specs.Row.{entry_of}
-use Rattle.standings.proofs.Keeping.{sum_more, sum_fits, sum_past}
-use Rattle.std.proofs.Common.{refl}
+use Rattle.std.proofs.Common.{List, rules}
+use Rattle.records.specs.Row.{Entry}
+use Rattle.standings.specs.Standing.{Stands, IsRead, entry_of_next}
+use Rattle.standings.proofs.Keeping.{SumTold, sum_told}
 use Rattle.standings.proofs.progress.Progress.sum_with.Goals as goal
 
-pub returns-in-Some : goal.returns-in-Some
-returns-in-Some g c =
-    let l = g.B.Meant.meaning in
-    let e = entry_of l c.args.row.now in
-    let a = c.amount_in.result in
-    let v = c.in-Some.sum.value in
-    record {
-      refused = λ es s good here. sum_fits l c.args.self.now es s e a v (c.amount_in.ensures good here) c.in-Some.ensures c.args.row_number c.in-Some.sum.bounded;
-      sum = λ es s good here. sum_more l c.args.self.now es s e a v (c.amount_in.ensures good here) c.in-Some.ensures;
-    }
-
-pub returns-in-None : goal.returns-in-None
-returns-in-None g c =
-    let l = g.B.Meant.meaning in
-    let e = entry_of l c.args.row.now in
-    record {
-      refused = λ es s good here. sum_past l c.args.self.now es s e c.amount_in.result _ (c.amount_in.ensures good here) refl c.args.row_number c.summed_start.result c.summed_start.ensures c.in-None.ensures;
-      sum = λ es s good here. tt;
-    }
+pub returns : goal.returns
+returns g c =
+    let l = g.B.Book.meaning in
+    let next = c.args.next in
+    let told : (es : List Entry) (s : Stands l c.args.self.now es) → IsRead l next → SumTold l c.args.self.now es s (entry_of_next l next) next.number c.ok_or_else.result = λ es s read.
+    sum_told l c.args.self.now es s (entry_of_next l next) c.amount_in.result next.number (c.amount_in.ensures read) c.plus.result c.ok_or_else.result _ (λ f is. search rules) c.plus.ensures c.ok_or_else.ensures.cases in
+    record { refused = λ es s read. (told es s read).refused; sum = λ es s read. (told es s read).sum }

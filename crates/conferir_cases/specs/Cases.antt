@@ -1,0 +1,7 @@
+-- How a list of cases comes apart.
+use Rattle.std.specs.Prelude.{◌≡◌, ℕ, List, ◌∷◌, ◌++◌}
+
+-- a length, LF, the input, LF, and what comes after it
+pub record Parts (bytes input rest : List ℕ) : Type 0 where
+  pub digits : List ℕ
+  pub whole : bytes ≡ digits ++ (10 ∷ (input ++ (10 ∷ rest)))
