@@ -1,5 +1,5 @@
 // The letters by which the books are known.
-ghost use Rattle.std.specs.Prelude.{◌≡◌};
+ghost use Rattle.std.specs.Prelude.{◌≡◌, Some, [], ◌∷◌};
 ghost use Rattle.books.specs.Letters.{byte_of, ReadsByte, ReadsWord};
 
 use std::fmt;
@@ -62,7 +62,13 @@ impl FromStr for Letter {
 }
 
 impl fmt::Display for Letter {
+    ghost output = { λ letter. Some (byte_of letter ∷ []) };
+
     fn fmt<W: fmt::Write>(&self, f: &mut fmt::Formatter<W>) -> fmt::Result {
-        f.write_char(u8::from(*self) as char)
+        f.write_str(match self {
+            Letter::P => "P",
+            Letter::Q => "Q",
+            Letter::S => "S",
+        })
     }
 }

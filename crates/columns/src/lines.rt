@@ -1,4 +1,4 @@
-// A field of a book as one line of text. Letters and marks are bytes here, since a line is bytes, whatever they are.
+// A field of a book as one line of text. Letters and marks are bytes here: a line prints them, and a `Letter` and a `Kind` would be turned into bytes in each function.
 ghost use Rattle.std.specs.Prelude.{◌≡◌, ◌++◌, map, OnOk};
 ghost use Rattle.numbers.specs.Digits.{printed};
 ghost use Rattle.fields.specs.Meaning.{sort_of, field_of};
@@ -46,7 +46,7 @@ pub fn sort_word(sort: Sort) -> &'static str
     }
 }
 
-// Nothing for constants, blanks and worked fields, to which nobody gives a value.
+// Nothing for constants, blanks and worked fields, to which nobody gives a value. Like the word of the sort, it is this listing's.
 pub fn requirement(field: Field) -> &'static str
     ensures { result.now ≡ requirement (field_of field) }
 {

@@ -1,5 +1,5 @@
 -- What a draft's calls leave in the memory below it, one after the other.
-use Rattle.std.proofs.Common.{◌≡◌, ℕ, suc, ◌+◌, List, [], ◌∷◌, ◌++◌, length, sym, refl, ap, ◌∙◌, append_assoc, append-nil, arith}
+use Rattle.std.proofs.Common.{◌≡◌, ℕ, suc, ◌+◌, List, [], ◌∷◌, ◌++◌, length, sym, ap, ◌∙◌, append_assoc, arith}
 use Rattle.std.proofs.lemmas.List.{length-append}
 use Rattle.rows.specs.Rows.{put, put_all}
 use Rattle.drafts.specs.declared.drafts.Draft.{Draft}
@@ -12,9 +12,6 @@ put_append size line (x ∷ xs) ys memory held =
     put_append size line xs ys (put size line memory held x) (held + 1) ∙ ap (λ n. put_all size line (put_all size line (put size line memory held x) (held + 1) xs) n ys) z
 
 module _ {B C : Type 0} {rows : C → List (List ℕ)} {memory lenders : C → List ℕ} {size : ℕ} {line : List ℕ → List ℕ} where
-  pub nothing : (d : Draft B C) → Wrote rows memory lenders size line d d
-  nothing d = record { added = []; behind = sym (append-nil (rows d.carrier)); lines = refl; loans = refl; book = refl }
-
   pub together : (d e f : Draft B C) → Wrote rows memory lenders size line d e → Wrote rows memory lenders size line e f → Wrote rows memory lenders size line d f
   together d e f a b =
       let held = length (rows d.carrier) in

@@ -3,12 +3,12 @@ use Rattle.std.proofs.Common.{◌≡◌, ℕ, ◌+◌, ◌^◌, ◌<◌, ◌≤�
 use native.Mathlib.Nat.{pow-le-pow_right}
 use Rattle.std.proofs.lemmas.Bool.{ltb-true}
 use Rattle.refusals.specs.declared.table.Refusal.{Refusal}
-use Rattle.refusals.specs.Faults.{in_row, first_some, fault_in, ok_or}
+use Rattle.refusals.specs.Faults.{Fault, in_row, first_some, fault_in, ok_or}
 use Rattle.fields.specs.Field.{Working, number_of_row, number_of_owner, total, count}
 use Rattle.layouts.specs.Layout.{Layout}
 use Rattle.layouts.specs.Lawful.{Lawful, WorkedWide}
 use Rattle.records.specs.declared.entries.Worked.{Worked}
-use Rattle.records.specs.Row.{origins_of, mark10, values31, fields11, conditions15, print_row, entry_of, mark_of, row_faults}
+use Rattle.records.specs.Row.{Entry, origins_of, mark10, values31, fields11, conditions15, print_row, entry_of, mark_of, row_faults}
 use Rattle.records.specs.Entries.{Handed, meant, handed31, value_fault}
 use Rattle.records.specs.Worked.{worked_of, reckoned_by}
 use Rattle.records.proofs.Options.{some_none, in_none, no_fault, unless_true}
@@ -51,9 +51,6 @@ module _ (l : Layout) (law : Lawful l) (v : Moment) (h : Handed) (n m : ℕ) (re
   at_fields o r small e =
       e ∙ last _ _ _ (in_none n _ ready.known) (ap value_fault ready.valued) ∙ ap (in_row n) (prints l law (meant h) ready.known valued r small) ∙ ap (λ k. in_row k (fields11 l (meant h))) ready.next
 
-  row_printed : (ws row : List ℕ) → print_row l (meant h) ws ≡ Ok row → Printed l (meant h) ws row
-  row_printed ws row p = printed l law (meant h) ws row ready.known p
-
   module _ (ws row : List ℕ) (is : Printed l (meant h) ws row) where
     at_conditions : (o : Option Refusal) → o ≡ in_row n (first_some (row_faults l row)) → o ≡ in_row (length v.entries + 1) (conditions15 l (meant h))
     at_conditions o e = e ∙ ap (in_row n) (judged_as l law (meant h) ready.known valued ws row is) ∙ ap (λ k. in_row k (conditions15 l (meant h))) ready.next
@@ -64,14 +61,8 @@ module _ (l : Layout) (law : Lawful l) (v : Moment) (h : Handed) (n m : ℕ) (re
     marked : m ≡ mark_of row
     marked = ready.marked ∙ sym is.mark
 
-    at_owner : (o : Option Refusal) → o ≡ in_row n (owner22 l v.entries (entry_of l row)) → o ≡ in_row (length v.entries + 1) (owner22 l v.entries (meant h))
-    at_owner o e = e ∙ ap (λ x. in_row n (owner22 l v.entries x)) is.entry ∙ ap (λ k. in_row k (owner22 l v.entries (meant h))) ready.next
-
-    at_sum : (o : Option Refusal) → o ≡ in_row n (sum26 l v.entries (entry_of l row)) → o ≡ in_row (length v.entries + 1) (sum26 l v.entries (meant h))
-    at_sum o e = e ∙ ap (λ x. in_row n (sum26 l v.entries x)) is.entry ∙ ap (λ k. in_row k (sum26 l v.entries (meant h))) ready.next
-
-    summed : (sum : ℕ) → sum ≡ sum_of l (v.entries ++ entry_of l row ∷ []) → sum ≡ sum_of l (v.entries ++ meant h ∷ [])
-    summed sum e = e ∙ ap (λ x. sum_of l (v.entries ++ x ∷ [])) is.entry
+    at_entry : (check : Entry → Option Fault) (o : Option Refusal) → o ≡ in_row n (check (entry_of l row)) → o ≡ in_row (length v.entries + 1) (check (meant h))
+    at_entry check o e = e ∙ ap (λ x. in_row n (check x)) is.entry ∙ ap (λ k. in_row k (check (meant h))) ready.next
 
   -- the worked numbers of the entry's place fit their fields
   small : None ≡ in_row (length v.entries + 1) (sum26 l v.entries (meant h)) → (r : Working → ℕ) → ((k : Working) → r k ≡ reckon l v.entries (meant h) k) → (k : Working) (w : ℕ) → WorkedWide k w → r k < 10 ^ w
@@ -80,25 +71,13 @@ module _ (l : Layout) (law : Lawful l) (v : Moment) (h : Handed) (n m : ℕ) (re
       let below : sum_of l (v.entries ++ meant h ∷ []) < 10 ^ 17 = ltb-true _ (10 ^ 17) (unless_true _ _ (no_fault _ _ (sym sum))) in
       subst (λ x. x < 10 ^ w) (sym (same k)) (reckon_fits l v.entries (meant h) few below k w wide)
 
-  -- the row with the worked numbers of its place is the entry's
-  fit_row : (r : Working → ℕ) → ((k : Working) → r k ≡ reckon l v.entries (meant h) k) → (row : List ℕ) → print_row l (meant h) (reckoned_by r (origins_of l h.mark)) ≡ Ok row →
-      None ≡ in_row (length v.entries + 1) (conditions15 l (meant h)) → (sum : ℕ) → sum ≡ sum_of l (v.entries ++ meant h ∷ []) → Fit l v h row sum
-  fit_row r same row p keeps sum sums =
-      let is = row_printed _ row p in
-      record {
-        is = sym (ap (λ ws. ok_or [] (print_row l (meant h) ws)) (sym (same_worked r (reckon l v.entries (meant h)) (origins_of l h.mark) same)) ∙ ap (ok_or []) p);
-        good = good_row _ row is keeps;
-        read = is.entry;
-        sums = sums;
-      }
-
   -- the steps of preparing, one after the other: where each stops, and what it leaves to the next
   pub stops_printing : (x : Refusal) → Prints (Some x) (worked_of unworked) → Some x ≡ first_some (contents l v h)
   stops_printing x e = here x _ _ (at_fields (Some x) (worked_of unworked) nothing_fits e)
 
-  module _ (row : List ℕ) (prints : Prints None (worked_of unworked)) (printed : print_row l (meant h) (reckoned_by (worked_of unworked) (origins_of l h.mark)) ≡ Ok row) where
+  module _ (row : List ℕ) (prints : Prints None (worked_of unworked)) (is_printed : print_row l (meant h) (reckoned_by (worked_of unworked) (origins_of l h.mark)) ≡ Ok row) where
     is : Printed l (meant h) (reckoned_by (worked_of unworked) (origins_of l h.mark)) row
-    is = row_printed _ row printed
+    is = printed l law (meant h) _ row ready.known is_printed
 
     fields : None ≡ in_row (length v.entries + 1) (fields11 l (meant h))
     fields = at_fields None (worked_of unworked) nothing_fits prints
@@ -106,34 +85,44 @@ module _ (l : Layout) (law : Lawful l) (v : Moment) (h : Handed) (n m : ℕ) (re
     pub stops_judging : (x : Refusal) → Some x ≡ in_row n (first_some (row_faults l row)) → Some x ≡ first_some (contents l v h)
     stops_judging x e = skip _ _ _ fields (here x _ _ (at_conditions _ row is (Some x) e))
 
-    module _ (judged : None ≡ in_row n (first_some (row_faults l row))) where
+    module _ (judged : None ≡ in_row n (first_some (row_faults l row))) (next : NextRow) (kind : next.kind.mark ≡ m) (same : next.row.now ≡ row) where
       keeps : None ≡ in_row (length v.entries + 1) (conditions15 l (meant h))
       keeps = at_conditions _ row is None judged
 
-      pub reads : (next : NextRow) → next.kind.mark ≡ m → next.row.now ≡ row → IsRead l next
-      reads next kind same = record { good = subst (Good l) (sym same) (good_row _ row is keeps); marked = kind ∙ marked _ row is ∙ ap mark_of (sym same) }
+      reads : IsRead l next
+      reads = record { good = subst (Good l) (sym same) (good_row _ row is keeps); marked = kind ∙ marked _ row is ∙ ap mark_of (sym same) }
 
-      pub stops_tying : (x : Refusal) → Some x ≡ in_row n (owner22 l v.entries (entry_of l row)) → Some x ≡ first_some (contents l v h)
-      stops_tying x e = skip _ _ _ fields (skip _ _ _ keeps (here x _ _ (at_owner _ row is (Some x) e)))
+      pub stops_tying : (x : Refusal) → (IsRead l next → Some x ≡ in_row n (owner22 l v.entries (entry_of l row))) → Some x ≡ first_some (contents l v h)
+      stops_tying x e = skip _ _ _ fields (skip _ _ _ keeps (here x _ _ (at_entry _ row is (owner22 l v.entries) (Some x) (e reads))))
 
-      module _ (tied : None ≡ in_row n (owner22 l v.entries (entry_of l row))) where
+      module _ (tied : IsRead l next → None ≡ in_row n (owner22 l v.entries (entry_of l row))) where
         owner : None ≡ in_row (length v.entries + 1) (owner22 l v.entries (meant h))
-        owner = at_owner _ row is None tied
+        owner = at_entry _ row is (owner22 l v.entries) None (tied reads)
 
-        pub stops_summing : (x : Refusal) → Some x ≡ in_row n (sum26 l v.entries (entry_of l row)) → Some x ≡ first_some (contents l v h)
-        stops_summing x e = skip _ _ _ fields (skip _ _ _ keeps (skip _ _ _ owner (here x _ _ (at_sum _ row is (Some x) e))))
+        pub stops_summing : (x : Refusal) → (IsRead l next → Some x ≡ in_row n (sum26 l v.entries (entry_of l row))) → Some x ≡ first_some (contents l v h)
+        stops_summing x e = skip _ _ _ fields (skip _ _ _ keeps (skip _ _ _ owner (here x _ _ (at_entry _ row is (sum26 l v.entries) (Some x) (e reads)))))
 
-        module _ (added : None ≡ in_row n (sum26 l v.entries (entry_of l row))) (sum : ℕ) (sums : sum ≡ sum_of l (v.entries ++ entry_of l row ∷ [])) where
+        module _ (added : IsRead l next → None ≡ in_row n (sum26 l v.entries (entry_of l row))) where
+          below : None ≡ in_row (length v.entries + 1) (sum26 l v.entries (meant h))
+          below = at_entry _ row is (sum26 l v.entries) None (added reads)
+
           pub all_pass : None ≡ first_some (contents l v h)
-          all_pass = skip _ _ _ fields (skip _ _ _ keeps (skip _ _ _ owner (skip _ _ _ (at_sum _ row is None added) refl)))
-
-          pub total_is : sum ≡ sum_of l (v.entries ++ meant h ∷ [])
-          total_is = summed _ row is sum sums
+          all_pass = skip _ _ _ fields (skip _ _ _ keeps (skip _ _ _ owner (skip _ _ _ below refl)))
 
           -- the second print
-          module _ (w : Worked) (right : (k : Working) → worked_of w k ≡ reckon l v.entries (meant h) k) where
+          module _ (sum : ℕ) (sums : IsRead l next → sum ≡ sum_of l (v.entries ++ entry_of l row ∷ [])) (w : Worked) (right : sum ≡ sum_of l (v.entries ++ meant h ∷ []) → (k : Working) → worked_of w k ≡ reckon l v.entries (meant h) k) where
+            total_is : sum ≡ sum_of l (v.entries ++ meant h ∷ [])
+            total_is = sums reads ∙ ap (λ x. sum_of l (v.entries ++ x ∷ [])) is.entry
+
             pub prints_again : (x : Refusal) → Prints (Some x) (worked_of w) → Some x ≡ first_some (contents l v h)
-            prints_again x e = some_none (at_fields (Some x) (worked_of w) (small (at_sum _ row is None added) (worked_of w) right) e ∙ sym fields)
+            prints_again x e = some_none (at_fields (Some x) (worked_of w) (small below (worked_of w) (right total_is)) e ∙ sym fields)
 
             pub fits : (again : List ℕ) → print_row l (meant h) (reckoned_by (worked_of w) (origins_of l h.mark)) ≡ Ok again → Fit l v h again sum
-            fits again e = fit_row (worked_of w) right again e keeps sum total_is
+            fits again e =
+                let p = printed l law (meant h) _ again ready.known e in
+                record {
+                  is = sym (ap (ok_or []) e) ∙ ap (λ ws. ok_or [] (print_row l (meant h) ws)) (same_worked (worked_of w) (reckon l v.entries (meant h)) (origins_of l h.mark) (right total_is));
+                  good = good_row _ again p keeps;
+                  read = p.entry;
+                  sums = total_is;
+                }

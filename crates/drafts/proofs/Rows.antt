@@ -1,5 +1,5 @@
 -- The row of an entry: what printing refuses, and what the printed row is judged as.
-use Rattle.std.proofs.Common.{◌≡◌, ℕ, ◌^◌, ◌<◌, List, [], ◌∷◌, ◌++◌, Some, None, Ok, Err, Option, Result, sym, refl, ap, ◌∙◌, subst}
+use Rattle.std.proofs.Common.{◌≡◌, ℕ, ◌^◌, ◌<◌, List, [], ◌∷◌, ◌++◌, Some, None, Ok, Err, Option, Result, refl, ap, ◌∙◌}
 use Rattle.refusals.specs.Faults.{and_then, first_some, fault_in}
 use Rattle.fields.specs.Field.{Field, Cell, Working, write_field}
 use Rattle.fields.specs.InRow.{at_field}
@@ -38,8 +38,8 @@ print_faults (f ∷ fs) (c ∷ cs) (d ∷ ds) a w =
     ∙ ap (λ o. first_some (unworked (origin f) (fault_in (at_field f (write_field f d))) ∷ (o ∷ []))) (print_faults fs cs ds a.1 w.1)
 
 pub last : {F : Type 0} (a b c : Option F) → a ≡ None → b ≡ None → first_some (a ∷ (b ∷ (c ∷ []))) ≡ c
-last a b None p q = subst (λ x. first_some (x ∷ (b ∷ (None ∷ []))) ≡ None) (sym p) (subst (λ x. first_some (x ∷ (None ∷ [])) ≡ None) (sym q) refl)
-last a b (Some f) p q = subst (λ x. first_some (x ∷ (b ∷ (Some f ∷ []))) ≡ Some f) (sym p) (subst (λ x. first_some (x ∷ (Some f ∷ [])) ≡ Some f) (sym q) refl)
+last a b None p q = rw (p, q)
+last a b (Some f) p q = rw (p, q)
 
 module _ (l : Layout) (law : Lawful l) (e : Entry) (known : mark10 l e.mark ≡ None) (valued : values31 l e ≡ None) where
   pub prints : (r : Working → ℕ) → ((k : Working) (w : ℕ) → WorkedWide k w → r k < 10 ^ w) → fault_in (print_row l e (reckoned_by r (origins_of l e.mark))) ≡ fields11 l e

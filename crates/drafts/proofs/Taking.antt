@@ -1,5 +1,5 @@
 -- A call's checks one after the other, and what they leave.
-use Rattle.std.proofs.Common.{◌≡◌, ℕ, ◌+◌, ◌<◌, ◌≤◌, ltb, List, [], ◌∷◌, ◌++◌, length, Some, None, Option, sym, refl, ◌∙◌, subst}
+use Rattle.std.proofs.Common.{◌≡◌, ℕ, ◌+◌, ◌<◌, ◌≤◌, ltb, List, [], ◌∷◌, ◌++◌, length, Some, None, Option, sym, refl, ap, ◌∙◌, subst, arith}
 use Rattle.std.proofs.lemmas.Bool.{leb-true, lt-ltb, le-ltb}
 use Rattle.refusals.specs.declared.table.Refusal.{Refusal}
 use Rattle.refusals.specs.Refusals.{refusal}
@@ -9,9 +9,13 @@ use Rattle.records.specs.Row.{mark10, fields11, conditions15}
 use Rattle.records.specs.Entries.{Handed, meant, handed31, value_fault}
 use Rattle.records.proofs.Options.{none_all, all_none, some_none, no_fault, unless_true, true_unless}
 use Rattle.legality.specs.Checks.{Call, row27, order20, group21, owner22, sum26, asks}
-use Rattle.lives.specs.Draft.{Moment, allows, judged, next}
+use Rattle.standings.specs.declared.progress.Progress.{Progress}
+use Rattle.standings.specs.Standing.{Stands}
+use Rattle.lives.specs.declared.states.State.{State}
+use Rattle.lives.specs.Draft.{Moment, allows, state_after, judged, next}
+use Rattle.lives.specs.States.{state_of}
 use Rattle.drafts.specs.declared.drafts.Draft.{Draft}
-use Rattle.drafts.specs.Standing.{Shows, admission, contents, Ready}
+use Rattle.drafts.specs.Standing.{Shows, admission, contents, Ready, Fit}
 
 -- the same checks, nested and one after the other
 flat : (n : ℕ) (a : Option Refusal) (b d : Option Fault) (u : Option Refusal) (q o g f k w s : Option Fault) (t : Option Refusal) →
@@ -51,35 +55,46 @@ module _ (l : Layout) (v : Moment) (c : Call) (h : Handed) where
       let m = h.mark in
       flat n (unless (allows v.state c) (refusal 30 0 0)) (row27 n) (mark10 l m) (value_fault (handed31 l h)) (unless (asks l c m) (fault 20 1)) (order20 l v.entries m) (group21 l v.entries m) (fields11 l (meant h)) (conditions15 l (meant h)) (owner22 l v.entries (meant h)) (sum26 l v.entries (meant h)) full
 
-  pub not_admitted : (x : Refusal) → Some x ≡ first_some (admission l v c h) → Some x ≡ judged l v c h
-  not_admitted x e = front (admission l v c h) (contents l v h ++ (full ∷ [])) x e ∙ sym one_by_one
+  -- what a draft stands for after a call, which is refused with x or taken
+  module _ {B C : Type 0} (rows : C → List (List ℕ)) (places : C → ℕ) (d : Draft B C) (s : Shows l rows places d v) where
+    abbrev pub Told : Option Refusal → Draft B C → Type 0
+    Told o d' = (o ≡ judged l v c h) × Shows l rows places d' (next l (judged l v c h) v c h)
 
-  pub not_fit : (x : Refusal) → None ≡ first_some (admission l v c h) → Some x ≡ first_some (contents l v h) → Some x ≡ judged l v c h
-  not_fit x a e = front (contents l v h) (full ∷ []) x e ∙ past (admission l v c h) (contents l v h ++ (full ∷ [])) a ∙ sym one_by_one
+    stays : (x : Refusal) → Some x ≡ judged l v c h → Told (Some x) d
+    stays x e = (e, subst (λ j. Shows l rows places d (next l j v c h)) e s)
 
-  no_place : None ≡ first_some (admission l v c h) → None ≡ first_some (contents l v h) → first_some (full ∷ []) ≡ judged l v c h
-  no_place a b = past (contents l v h) (full ∷ []) b ∙ past (admission l v c h) (contents l v h ++ (full ∷ [])) a ∙ sym one_by_one
+    pub not_admitted : (x : Refusal) → Some x ≡ first_some (admission l v c h) → Told (Some x) d
+    not_admitted x e = stays x (front (admission l v c h) (contents l v h ++ (full ∷ [])) x e ∙ sym one_by_one)
 
-  pub places_used_up : None ≡ first_some (admission l v c h) → None ≡ first_some (contents l v h) → v.places ≤ length v.rows → Some (refusal 2 v.places 0) ≡ judged l v c h
-  places_used_up a b e = (let z : ltb (length v.rows) v.places ≡ _ = le-ltb (length v.rows) v.places e in rw z) ∙ no_place a b
+    module _ (n m : ℕ) (a : None ≡ first_some (admission l v c h)) (is : n ≡ length v.entries + 1) (mark : m ≡ h.mark) where
+      ready : Ready l v h n m
+      ready =
+          let p = none_all (admission l v c h) (sym a) in
+          let few : length v.entries + 1 ≤ 65535 = leb-true (length v.entries + 1) 65535 (unless_true _ _ (no_fault _ _ p.1.0)) in
+          record { next = is; few = subst (λ k. k ≤ 65535) (sym is) few; marked = mark; known = no_fault _ _ p.1.1.0; valued = no_value (handed31 l h) p.1.1.1.0 }
+        where
+          no_value : (o : Option ℕ) → value_fault o ≡ None → o ≡ None
+          no_value None e = refl
+          no_value (Some n) e = some_none e
 
-  pub taken : None ≡ first_some (admission l v c h) → None ≡ first_some (contents l v h) → length v.rows < v.places → None ≡ judged l v c h
-  taken a b e = sym (all_none (full ∷ []) (true_unless _ _ (lt-ltb (length v.rows) v.places e), tt)) ∙ no_place a b
+      pub not_fit : (x : Refusal) → (Ready l v h n m → Some x ≡ first_some (contents l v h)) → Told (Some x) d
+      not_fit x e = stays x (front (contents l v h) (full ∷ []) x (e ready) ∙ past (admission l v c h) (contents l v h ++ (full ∷ [])) a ∙ sym one_by_one)
 
-  pub ready : (n m : ℕ) → None ≡ first_some (admission l v c h) → n ≡ length v.entries + 1 → m ≡ h.mark → Ready l v h n m
-  ready n m a is mark =
-      let p = none_all (admission l v c h) (sym a) in
-      let few : length v.entries + 1 ≤ 65535 = leb-true (length v.entries + 1) 65535 (unless_true _ _ (no_fault _ _ p.1.0)) in
-      record { next = is; few = subst (λ k. k ≤ 65535) (sym is) few; marked = mark; known = no_fault _ _ p.1.1.0; valued = no_value (handed31 l h) p.1.1.1.0 }
-    where
-      no_value : (o : Option ℕ) → value_fault o ≡ None → o ≡ None
-      no_value None e = refl
-      no_value (Some n) e = some_none e
+      module _ (fits : Ready l v h n m → None ≡ first_some (contents l v h)) where
+        no_place : first_some (full ∷ []) ≡ judged l v c h
+        no_place = past (contents l v h) (full ∷ []) (fits ready) ∙ past (admission l v c h) (contents l v h ++ (full ∷ [])) a ∙ sym one_by_one
 
-  -- what a draft stands for after a call that leaves it, and after one that takes its entry
-  module _ {B C : Type 0} (rows : C → List (List ℕ)) (places : C → ℕ) (d : Draft B C) where
-    pub stays : (x : Refusal) → Some x ≡ judged l v c h → Shows l rows places d v → (Some x ≡ judged l v c h) × Shows l rows places d (next l (judged l v c h) v c h)
-    stays x e s = (e, subst (λ j. Shows l rows places d (next l j v c h)) e s)
+        pub used_up : (x : Refusal) (k : C) → (x ≡ refusal 2 (places d.carrier) 0) × (places d.carrier ≤ length (rows d.carrier)) → k ≡ d.carrier → Told (Some x) (record { book = d.book; carrier = k; state = d.state; progress = d.progress })
+        used_up x k why kept =
+            let past : ltb (length v.rows) v.places ≡ _ = le-ltb (length v.rows) v.places (omega (arith, why.1, ap length s.2, s.3)) in
+            let none : Some (refusal 2 v.places 0) ≡ first_some (full ∷ []) = rw past in
+            subst (λ k. Told (Some x) (record { book = d.book; carrier = k; state = d.state; progress = d.progress })) (sym kept) (stays x (ap Some (why.0 ∙ ap (λ k. refusal 2 k 0) s.3) ∙ none ∙ no_place))
 
-    pub goes_on : None ≡ judged l v c h → Shows l rows places d (next l None v c h) → (None ≡ judged l v c h) × Shows l rows places d (next l (judged l v c h) v c h)
-    goes_on e s = (e, subst (λ j. Shows l rows places d (next l j v c h)) e s)
+        pub taken : (row : List ℕ) (sum : ℕ) → (Ready l v h n m → Fit l v h row sum) → (k : C) → (length (rows d.carrier) < places d.carrier) × (rows k ≡ rows d.carrier ++ row ∷ []) → places k ≡ places d.carrier → (state : State) → state_of state ≡ state_after c h.mark → (p : Progress) → (Ready l v h n m → Fit l v h row sum → Stands l p (v.entries ++ meant h ∷ [])) → Told None (record { book = d.book; carrier = k; state = state; progress = p })
+        taken row sum fit k pushed kept state after p stands =
+            let free : length v.rows < v.places = omega (arith, pushed.0, ap length s.2, s.3) in
+            let e = sym (all_none (full ∷ []) (true_unless _ _ (lt-ltb (length v.rows) v.places free), tt)) ∙ no_place in (
+              e,
+              subst (λ j. Shows l rows places (record { book = d.book; carrier = k; state = state; progress = p }) (next l j v c h)) e
+                  (after, stands ready (fit ready), pushed.1 ∙ ap (λ rs. rs ++ row ∷ []) s.2 ∙ ap (λ r. v.rows ++ r ∷ []) (fit ready).is, kept ∙ s.3),
+            )

@@ -46,6 +46,7 @@ pub fn run<B: Book, C: Carrier>(draft: &mut Draft<B, C>, requests: &[Request]) -
     ensures law { ExchangedOn B B.meaning C.Carrier C.Carrier }
     ensures read { ReadBackOn B B.meaning C.Carrier C.Source.rows }
 {
+    // Counted in a loop, since each call changes the draft that the next one is made on.
     let mut accepted = 0;
     for request in requests {
         if apply(draft, *request).is_ok() {

@@ -7,7 +7,7 @@ use Rattle.records.specs.Row.{Entry}
 use Rattle.files.specs.declared.checking.Accepted.{Accepted}
 use Rattle.refusals.specs.declared.file.FileFault.{FileFault}
 use Rattle.legality.specs.Before.{rows_of}
-use Rattle.legality.specs.File.{Legal, accepted, checked}
+use Rattle.legality.specs.File.{Legal, accepted, checked, FileLaw}
 use Rattle.files.specs.Told.{accepted_of, told, OneLegal}
 use Rattle.legality.proofs.Law.{file_law}
 
@@ -27,5 +27,6 @@ module _ (l : Layout) (law : Lawful l) (rows : List (List ℕ)) (long : (k : ℕ
           }
       go (Err f) e = tt
 
-  pub passes : (es : List Entry) → Legal l es → rows_of l es ≡ rows → told r ≡ Ok (accepted l es)
-  passes es legal same = answer ∙ ap (checked l) (sym same) ∙ ((file_law l law).passes es legal).1
+  -- all that the check promises of its answer
+  pub says : record { answer : told r ≡ checked l rows; law : FileLaw l; backed : IfOk r (λ a. OneLegal l rows (accepted_of a)); passes : (es : List Entry) → Legal l es → rows_of l es ≡ rows → told r ≡ Ok (accepted l es) }
+  says = record { answer = answer; law = file_law l law; backed = backed; passes = λ es legal same. answer ∙ ap (checked l) (sym same) ∙ ((file_law l law).passes es legal).1 }

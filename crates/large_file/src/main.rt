@@ -3,11 +3,12 @@
 
 use drafts::drafts::Draft;
 use example_entries::{charge, header, trailer};
-use files::checking::{Accepted, check};
+use files::checking::Accepted;
+use files::reading::check_in;
 use forms::Flat;
 use outgoing_receipts::OutgoingReceipts;
 use refusals::{DraftFault, InputFault, Refusal};
-use rows::{Opened, Written};
+use rows::Written;
 use std::time::Instant;
 
 // 65,536 rows of 750 bytes: one row more than a file may have.
@@ -24,11 +25,6 @@ fn draft_file(charges: u32, memory: &mut [u8]) -> Result<(), DraftFault> {
         draft.add(charge())?;
     }
     draft.close(trailer())
-}
-
-fn check_flat(bytes: &[u8]) -> Result<Accepted, InputFault> {
-    let opened: Opened<Flat> = Opened::open(bytes)?;
-    Ok(check(&OutgoingReceipts, &opened)?)
 }
 
 fn tell_refusal(rt: &HostRuntime, what: &str, refusal: Refusal) -> anyhow::Result<()> {
@@ -69,11 +65,15 @@ fn run(rt: &HostRuntime) -> anyhow::Result<()> {
         draft_file(65_533, memory.as_mut_slice()),
     )?;
     let start = Instant::now(rt)?;
-    let answer = check_flat(&memory.as_slice()[0..LARGEST]);
+    let answer = check_in::<Flat, _>(&OutgoingReceipts, &memory.as_slice()[0..LARGEST]);
     let time = start.elapsed(rt)?.as_nanos();
     eprintln!(rt; "check of 65535 rows: {time} ns")?;
     tell_check(rt, "check of 65535 rows", answer)?;
-    tell_check(rt, "check of 65536 rows", check_flat(memory.as_slice()))?;
+    tell_check(
+        rt,
+        "check of 65536 rows",
+        check_in::<Flat, _>(&OutgoingReceipts, memory.as_slice()),
+    )?;
     tell_draft(
         rt,
         "draft of 65536 rows",

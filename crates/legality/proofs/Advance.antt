@@ -1,12 +1,12 @@
 -- What is kept of one entry more.
-use Rattle.std.proofs.Common.{◌≡◌, ℕ, suc, ◌+◌, cond, eqb, ltb, List, [], ◌∷◌, ◌++◌, length, drop, Some, None, Option, sym, refl, ap, ◌∙◌, ⊎_elim, arith}
+use Rattle.std.proofs.Common.{◌≡◌, ℕ, ◌+◌, cond, eqb, List, [], ◌∷◌, ◌++◌, length, drop, Some, None, Option, refl, ap, arith}
 use Rattle.std.proofs.lemmas.List.{length_push, drop-append-le, drop_all}
-use Rattle.std.proofs.lemmas.Bool.{cases_Bool, lt-ltb, cond-false}
+use Rattle.std.proofs.lemmas.Grind.{common_steps}
 use Rattle.fields.specs.Field.{any_of}
 use Rattle.layouts.specs.Layout.{Layout, Group}
 use Rattle.layouts.specs.Meaning.{owns, follows}
 use Rattle.records.specs.Row.{Entry}
-use Rattle.legality.specs.Before.{last_place, last_entry, owner_place, no_entry, count_of, followers, amount_at, sum_of}
+use Rattle.legality.specs.Before.{last_place, last_entry, owner_place, count_of, followers, amount_at, sum_of}
 use Rattle.legality.specs.Progress.{Progress, last_mark, owner_in, followers_in, ProgressLaw}
 use Rattle.legality.proofs.Reckoning.{last_within}
 use Rattle.legality.proofs.Law.{last_push}
@@ -20,44 +20,17 @@ count_push ms [] e = omega arith
 count_push ms (x ∷ xs) e = let h = count_push ms xs e in omega arith
 
 place_push : (m : ℕ) (es : List Entry) (e : Entry) → last_place m (es ++ e ∷ []) ≡ cond (eqb e.mark m) (length es + 1) (last_place m es)
-place_push m [] e = ⊎_elim (λ t. rw t) (λ f. rw f) (cases_Bool (eqb e.mark m))
-place_push m (x ∷ xs) e =
-    let h = place_push m xs e in
-    ⊎_elim
-    (λ t. let k : last_place m (xs ++ e ∷ []) ≡ length xs + 1 = rw t at h in
-    rw (k, t, lt-ltb 0 (length xs + 1) (omega arith)) (omega arith))
-    (λ f. let k : last_place m (xs ++ e ∷ []) ≡ last_place m xs = rw f at h in
-    ap (λ n. cond (ltb 0 n) (suc n) (cond (eqb x.mark m) 1 0)) k ∙ sym (cond-false (eqb e.mark m) (length (x ∷ xs) + 1) (last_place m (x ∷ xs)) f))
-    (cases_Bool (eqb e.mark m))
+place_push m [] e = grind (arith, common_steps)
+place_push m (x ∷ xs) e = grind (arith, common_steps, place_push m xs e)
 
 entry_push : (m : ℕ) (es : List Entry) (e : Entry) → last_entry m (es ++ e ∷ []) ≡ cond (eqb e.mark m) e (last_entry m es)
 entry_push m [] e = refl
-entry_push m (x ∷ xs) e =
-    let h = place_push m xs e in
-    let i = entry_push m xs e in
-    ⊎_elim
-    (λ t. let k : last_place m (xs ++ e ∷ []) ≡ length xs + 1 = rw t at h in
-    let j : last_entry m (xs ++ e ∷ []) ≡ e = rw t at i in
-    rw (k, j, t, lt-ltb 0 (length xs + 1) (omega arith)))
-    (λ f. let k : last_place m (xs ++ e ∷ []) ≡ last_place m xs = rw f at h in
-    let j : last_entry m (xs ++ e ∷ []) ≡ last_entry m xs = rw f at i in
-    ap (λ n. cond (ltb 0 n) (last_entry m (xs ++ e ∷ [])) (cond (eqb x.mark m) x no_entry)) k ∙ ap (λ y. cond (ltb 0 (last_place m xs)) y (cond (eqb x.mark m) x no_entry)) j ∙ sym (cond-false (eqb e.mark m) e (last_entry m (x ∷ xs)) f))
-    (cases_Bool (eqb e.mark m))
-
-one : (f m : ℕ) → ◌≡◌ {A = ℕ} (cond (any_of (f ∷ []) m) 1 0) (cond (eqb m f) 1 0)
-one f m = ⊎_elim (λ t. rw t) (λ g. rw g) (cases_Bool (eqb m f))
+entry_push m (x ∷ xs) e = grind (arith, common_steps, place_push m xs e, entry_push m xs e)
 
 followers_push : (g : Group) (es : List Entry) (e : Entry) → followers g (es ++ e ∷ []) ≡ cond (eqb e.mark g.owner) 0 (followers g es + cond (eqb e.mark g.follower) 1 0)
 followers_push g es e =
-    let m = g.owner in
-    let ms = g.follower ∷ [] in
-    let h = place_push m es e in
-    ⊎_elim
-    (λ t. let k : last_place m (es ++ e ∷ []) ≡ length es + 1 = rw t at h in
-    rw t (ap (λ n. count_of ms (drop n (es ++ e ∷ []))) k ∙ ap (count_of ms) (drop_all (length es + 1) (es ++ e ∷ []) (omega (arith, length_push es e)))))
-    (λ f. let k : last_place m (es ++ e ∷ []) ≡ last_place m es = rw f at h in
-    rw f (ap (λ n. count_of ms (drop n (es ++ e ∷ []))) k ∙ ap (count_of ms) (drop-append-le (last_place m es) es (e ∷ []) (last_within m es)) ∙ count_push ms (drop (last_place m es) es) e ∙ ap (λ n. followers g es + n) (one g.follower e.mark)))
-    (cases_Bool (eqb e.mark m))
+    let at = last_place g.owner es in
+    grind (arith, common_steps, place_push g.owner es e, drop_all (length es + 1) (es ++ e ∷ []) (omega (arith, length_push es e)), drop-append-le at es (e ∷ []) (last_within g.owner es), count_push (g.follower ∷ []) (drop at es) e)
 
 pub mark_push : (es : List Entry) (e : Entry) → last_mark (es ++ e ∷ []) ≡ Some e.mark
 mark_push [] e = refl
@@ -81,11 +54,4 @@ record_is p q t u v w x = cc
 
 pub progress_law : ProgressLaw
 progress_law l es e =
-    let n = length_push es e in
-    let k = mark_push es e in
-    let a = at_push l.group es e in
-    let o = owner_push l.group es e in
-    let f = following_push l.group es e in
-    let s = sum_push l es e in
-    let c = count_push l.counted es e in
-    record_is n k a o f s c
+    record_is (length_push es e) (mark_push es e) (at_push l.group es e) (owner_push l.group es e) (following_push l.group es e) (sum_push l es e) (count_push l.counted es e)

@@ -1,7 +1,8 @@
 -- Files that the check accepts and legal lists, one to one.
-use Rattle.std.proofs.Common.{◌≡◌, ℕ, ◌^◌, ◌<◌, true, false, eqb, List, [], ◌∷◌, ◌++◌, map, length, None, Ok, sym, refl, ap, ◌∙◌, subst, ⊎_elim, append_assoc, append-nil}
+use Rattle.std.proofs.Common.{◌≡◌, ℕ, ◌^◌, ◌<◌, true, false, eqb, List, [], ◌∷◌, ◌++◌, map, length, None, Ok, sym, refl, ap, ◌∙◌, subst, append_assoc, append-nil, arith}
 use Rattle.std.specs.List.{AllByRecursion}
-use Rattle.std.proofs.lemmas.Bool.{ltb-true, eqb-true, ne_eqb, or_cases, and_from, not_from_false, both_ways}
+use Rattle.std.proofs.lemmas.Grind.{common_steps}
+use Rattle.std.proofs.lemmas.Bool.{ltb-true, eqb-true, ne_eqb, and_from, not_from_false, both_ways}
 use Rattle.refusals.specs.Faults.{answer, unless, first_some}
 use Rattle.fields.specs.Field.{any_of}
 use Rattle.fields.proofs.Results.{then_ok, ok_then}
@@ -12,7 +13,7 @@ use Rattle.records.proofs.Options.{none_all, all_none, no_fault, unless_true, tr
 use Rattle.records.proofs.Law.{lawful_kind}
 use Rattle.legality.specs.Before.{last_of, sum_of, row_of, rows_after, rows_of}
 use Rattle.legality.specs.Checks.{may_stand, row_checks, row_fault, Call, starts, adds, closes, asks, entry_fault}
-use Rattle.legality.specs.File.{Onward, Legal, Accepted, accepted, closed, checked_after, checked, Whole, FileLaw, FilesKeepTheLaw}
+use Rattle.legality.specs.File.{Onward, Legal, Accepted, accepted, closed, checked_after, checked, Whole, FileLaw}
 use Rattle.legality.proofs.Place.{passed, enters, leaves}
 
 pub last_push : (e : Entry) (es : List Entry) (x : Entry) → last_of e (es ++ x ∷ []) ≡ x
@@ -29,11 +30,7 @@ closed_push l (b ∷ bs) e = ap (λ x. eqb x.mark l.trailer) (last_push b bs e)
 
 apart : (t x : ℕ) (ms : List ℕ) → AllByRecursion (λ m. Apart m t) ms → any_of ms x ≡ true → Apart x t
 apart t x [] h e is = absurd (cc)
-apart t x (m ∷ ms) h e is =
-    ⊎_elim
-    (λ y. h.0 (sym (eqb-true x m y) ∙ is))
-    (λ n. apart t x ms h.1 n is)
-    (or_cases (eqb x m) (any_of ms x) e)
+apart t x (m ∷ ms) h e is = grind (arith, common_steps, h.0, λ (n : any_of ms x ≡ true). apart t x ms h.1 n is)
 
 module _ (l : Layout) (law : Lawful l) where
   -- one step of the check
@@ -56,15 +53,11 @@ module _ (l : Layout) (law : Lawful l) where
       let s = step before row rows a h in
       let e = entry_of l row in
       let here = (enters l law before row w.0 s.0).0 in
-      let rest = rows_back rows (before ++ e ∷ []) a w.1 s.1 in (
-        ap (λ x. x ∷ rows_after l (before ++ e ∷ []) (map (entry_of l) rows)) here ∙ ap (λ x. row ∷ x) rest.0,
-        rest.1 ∙ ap (accepted l) (append_assoc before (e ∷ []) (map (entry_of l) rows)),
-      )
+      let rest = rows_back rows (before ++ e ∷ []) a w.1 s.1 in
+      (rw (here, rest.0), rw (append_assoc before (e ∷ []) (map (entry_of l) rows)) at rest.1)
 
   not_header : (b : Entry) (bs : List Entry) (m : ℕ) → may_stand l (b ∷ bs) m ≡ true → eqb m l.header ≡ false
-  not_header b bs m h = ne_eqb m l.header (λ is.
-      let none : any_of [] (last_of b bs).mark ≡ true = subst (λ ms. any_of ms (last_of b bs).mark ≡ true) law.header.1 (subst (λ x. may_stand l (b ∷ bs) x ≡ true) is h) in
-      both_ways false refl none)
+  not_header b bs m h = ne_eqb m l.header (λ is. let none : any_of [] (last_of b bs).mark ≡ true = rw (is, law.header.1) at h in both_ways false refl none)
 
   onward_back : (row : List ℕ) (rows : List (List ℕ)) (b : Entry) (bs : List Entry) (a : Accepted) → Whole (row ∷ rows) → checked_after l (b ∷ bs) (row ∷ rows) ≡ Ok a → Onward l (b ∷ bs) (map (entry_of l) (row ∷ rows))
   onward_back row [] b bs a w h =
@@ -95,7 +88,7 @@ module _ (l : Layout) (law : Lawful l) where
   onward_sum : (es before : List Entry) → Onward l before es → sum_of l (before ++ es) < 10 ^ 17
   onward_sum [] before h = absurd h
   onward_sum (e ∷ []) before h = let p = passed l before closes e (values31 l e) h in ltb-true (sum_of l (before ++ e ∷ [])) (10 ^ 17) (unless_true _ _ p.0.sum)
-  onward_sum (e ∷ (x ∷ xs)) before h = subst (λ ys. sum_of l ys < 10 ^ 17) (append_assoc before (e ∷ []) (x ∷ xs)) (onward_sum (x ∷ xs) (before ++ e ∷ []) h.1)
+  onward_sum (e ∷ (x ∷ xs)) before h = rw append_assoc at (onward_sum (x ∷ xs) (before ++ e ∷ []) h.1)
 
   pub legal_sum : (es : List Entry) → Legal l es → sum_of l es < 10 ^ 17
   legal_sum [] h = absurd h
@@ -138,14 +131,14 @@ module _ (l : Layout) (law : Lawful l) where
   onward_shows (e ∷ (x ∷ xs)) before h =
       let s = shows before adds e h.0 in
       let r = onward_shows (x ∷ xs) (before ++ e ∷ []) h.1 in
-      ((s.0, r.0), ap (λ y. y ∷ map (entry_of l) (rows_after l (before ++ e ∷ []) (x ∷ xs))) s.1 ∙ ap (λ ys. e ∷ ys) r.1)
+      ((s.0, r.0), rw (s.1, r.1))
 
   pub legal_shows : (es : List Entry) → Legal l es → AllByRecursion Sound (rows_of l es) × (map (entry_of l) (rows_of l es) ≡ es)
   legal_shows [] h = absurd h
   legal_shows (e ∷ es) h =
       let s = shows [] starts e h.0 in
       let r = onward_shows es (e ∷ []) h.1 in
-      ((s.0, r.0), ap (λ y. y ∷ map (entry_of l) (rows_after l (e ∷ []) es)) s.1 ∙ ap (λ ys. e ∷ ys) r.1)
+      ((s.0, r.0), rw (s.1, r.1))
 
   legal_passes : (es : List Entry) → Legal l es → checked l (rows_of l es) ≡ Ok (accepted l es)
   legal_passes [] h = absurd h
@@ -157,6 +150,3 @@ module _ (l : Layout) (law : Lawful l) where
     passes = λ es h. (whole (rows_of l es) (legal_shows es h).0, legal_passes es h);
     alone = λ es fs h k e. sym (legal_shows es h).1 ∙ ap (map (entry_of l)) e ∙ (legal_shows fs k).1;
   }
-
-pub files_keep_the_law : FilesKeepTheLaw
-files_keep_the_law l law = file_law l law

@@ -1,12 +1,13 @@
 -- One row after the entries before: it is not refused exactly when it is the row of an entry that is not refused.
-use Rattle.std.proofs.Common.{◌≡◌, ℕ, ◌+◌, ◌^◌, ◌<◌, ◌≤◌, Bool, true, eqb, List, [], ◌∷◌, ◌++◌, length, Some, None, Ok, Option, sym, refl, ap, ◌∙◌, ⊎_elim}
-use Rattle.std.proofs.lemmas.Bool.{cases_Bool, eqb-true, leb-true, ltb-true}
-use Rattle.refusals.specs.Faults.{in_row, first_some, ok_or}
+use Rattle.std.proofs.Common.{◌≡◌, ℕ, ◌+◌, ◌^◌, ◌<◌, ◌≤◌, Bool, true, List, [], ◌∷◌, ◌++◌, length, Some, None, Ok, Option, refl, ap, ◌∙◌, arith}
+use Rattle.std.proofs.lemmas.Grind.{common_steps}
+use Rattle.std.proofs.lemmas.Bool.{leb-true, ltb-true}
+use Rattle.refusals.specs.Faults.{in_row, first_some}
 use Rattle.fields.specs.Field.{Working}
 use Rattle.layouts.specs.Layout.{Layout}
 use Rattle.layouts.specs.Lawful.{Lawful}
 use Rattle.records.specs.Cells.{cells, sorts_asked}
-use Rattle.records.specs.Row.{Entry, fields_of, origins_of, contents, mark10, values31, fields11, conditions15, Acceptable, print_row, mark_of, entry_of, digits_of, row_faults}
+use Rattle.records.specs.Row.{Entry, fields_of, origins_of, contents, mark10, values31, fields11, conditions15, print_row, mark_of, entry_of, digits_of, row_faults}
 use Rattle.records.proofs.Options.{some_none, none_all, all_none, no_fault, in_none, unless_true, true_unless}
 use Rattle.records.proofs.Cells.{shaped, alike, prints_all}
 use Rattle.records.proofs.Law.{reads, writes, lawful_kind}
@@ -57,24 +58,11 @@ module _ (l : Layout) (before : List Entry) (c : Call) (e : Entry) where
   pub passes : (v : Option ℕ) → Passed l before c e → v ≡ None → checks_with v l before c e ≡ None
   passes v p h =
       let n = length before + 1 in
-      all_none (in_row n (first_some (first_checks l before e.mark)) ∷ (value_fault v ∷ (in_row n (first_some (entry_checks l before c e)) ∷ []))) (
-        in_none n _ (all_none (first_checks l before e.mark) (p.few, (p.known, tt))),
-        (
-          ap value_fault h,
-          (
-            in_none n _ (all_none (entry_checks l before c e) (true_unless _ _ p.asked, (p.order, (p.group, (p.fields, (p.conditions, (p.owner, (p.sum, tt)))))))),
-            tt,
-          ),
-        ),
-      )
+      all_none (in_row n (first_some (first_checks l before e.mark)) ∷ (value_fault v ∷ (in_row n (first_some (entry_checks l before c e)) ∷ [])))
+      (in_none n _ (all_none (first_checks l before e.mark) (p.few, (p.known, tt))), (ap value_fault h, (in_none n _ (all_none (entry_checks l before c e) (true_unless _ _ p.asked, (p.order, (p.group, (p.fields, (p.conditions, (p.owner, (p.sum, tt)))))))), tt)))
 
 pub as_many : (l : Layout) (e : Entry) → values31 l e ≡ None → length (sorts_asked (origins_of l e.mark)) ≡ length e.values
-as_many l e h =
-    let ps = sorts_asked (origins_of l e.mark) in
-    ⊎_elim
-    (λ t. eqb-true (length ps) (length e.values) t)
-    (λ f. some_none (rw f at h))
-    (cases_Bool (eqb (length ps) (length e.values)))
+as_many l e h = grind (arith, common_steps)
 
 module _ (l : Layout) (law : Lawful l) where
   -- a row that is not refused is the row of its entry, which passes
@@ -88,7 +76,7 @@ module _ (l : Layout) (law : Lawful l) where
       let q = reads l law row len (all_none (row_faults l row) (n.1.0, (n.1.1.1.1.0, (n.1.1.1.1.1.0, tt)))) in
       let sh = shaped (fields_of l e.mark) (cells os e.values (digits_of l row)) row q.1 in
       let is : digits_of l row ≡ reckoned_by r os = all_right r os e.values (digits_of l row) sh n.1.1.1.1.1.1.1.0 n.1.1.1.1.1.1.1.1.1.0 n.1.1.1.1.1.1.1.1.1.1.0 in (
-        ap (λ ws. ok_or [] (print_row l e ws)) (sym is) ∙ ap (ok_or []) q.1,
+        rw (← is, q.1),
         λ c a. passes l before c e (values31 l e) (record {
           few = n.0;
           known = n.1.0;
@@ -102,9 +90,6 @@ module _ (l : Layout) (law : Lawful l) where
         }) q.0.valued,
       )
 
-  acceptable : (before : List Entry) (c : Call) (e : Entry) → Passed l before c e → values31 l e ≡ None → Acceptable l e
-  acceptable before c e p v = record { known = p.known; valued = v; prints = p.fields; keeps = p.conditions }
-
   -- an entry that passes has a row
   has_row : (before : List Entry) (c : Call) (e : Entry) → Passed l before c e → values31 l e ≡ None → print_row l e (reckoned_by (reckon l before e) (origins_of l e.mark)) ≡ Ok (row_of l before e)
   has_row before c e p v =
@@ -115,7 +100,7 @@ module _ (l : Layout) (law : Lawful l) where
       let s : sum_of l (before ++ e ∷ []) < 10 ^ 17 = ltb-true (sum_of l (before ++ e ∷ [])) (10 ^ 17) (unless_true _ _ p.sum) in
       let fit = worked_fit (reckon l before e) (reckon_fits l before e n s) fs (lawful_kind l law e.mark p.known).0.widths (kind_fits l _ (lawful_kind l law e.mark p.known).0) e.values (as_many l e v) in
       let q = prints_all fs (cells os e.values ws) (contents l e) (alike os e.values ws []) fit p.fields in
-      q.1 ∙ ap Ok (sym (ap (ok_or []) q.1))
+      rw q.1
 
   -- and its row is not refused, and reads as it
   pub leaves : (before : List Entry) (c : Call) (e : Entry) → Passed l before c e → values31 l e ≡ None →
@@ -124,34 +109,13 @@ module _ (l : Layout) (law : Lawful l) where
       let row = row_of l before e in
       let os = origins_of l e.mark in
       let r = reckon l before e in
-      let q = writes l law e (reckoned_by r os) row (acceptable before c e p v) (has_row before c e p v) in
+      let q = writes l law e (reckoned_by r os) row (record { known = p.known; valued = v; prints = p.fields; keeps = p.conditions }) (has_row before c e p v) in
       let same : entry_of l row ≡ e = q.1 in
       let m : mark_of row ≡ e.mark = ap (λ x. x.mark) same in
       let t = none_all (row_faults l row) q.3 in
       let right : (k : ℕ) (looked : Working → Bool) → wrong k looked l before row ≡ None =
-      λ k looked. ap (λ x. first_wrong k looked (reckon l before x) (origins_of l x.mark) (digits_of l row)) same ∙ ap (first_wrong k looked r os) q.2 ∙ none_wrong k looked r os in (
+      λ k looked. ap (λ x. first_wrong k looked (reckon l before x) (origins_of l x.mark) (digits_of l row)) same ∙ rw q.2 (none_wrong k looked r os) in (
         q.0,
         same,
-        in_none (length before + 1) _ (all_none (row_checks l before row) (
-          p.few,
-          (
-            t.0,
-            (
-              ap (order20 l before) m ∙ p.order,
-              (
-                ap (group21 l before) m ∙ p.group,
-                (
-                  t.1.0,
-                  (
-                    t.1.1.0,
-                    (
-                      ap (owner22 l before) same ∙ p.owner,
-                      (right 23 is_number, (ap (sum26 l before) same ∙ p.sum, (right 24 is_total, (right 25 is_count, tt)))),
-                    ),
-                  ),
-                ),
-              ),
-            ),
-          ),
-        )),
+        in_none (length before + 1) _ (all_none (row_checks l before row) (p.few, (t.0, (ap (order20 l before) m ∙ p.order, (ap (group21 l before) m ∙ p.group, (t.1.0, (t.1.1.0, (ap (owner22 l before) same ∙ p.owner, (right 23 is_number, (ap (sum26 l before) same ∙ p.sum, (right 24 is_total, (right 25 is_count, tt)))))))))))),
       )

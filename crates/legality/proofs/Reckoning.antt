@@ -1,17 +1,17 @@
 -- The worked fields: what they must hold fits them, and is what they hold where none is wrong.
-use Rattle.std.proofs.Common.{◌≡◌, ℕ, ◌+◌, ◌^◌, ◌<◌, ◌≤◌, Bool, true, false, cond, not, ◌&&◌, eqb, ltb, List, [], ◌∷◌, ◌++◌, length, Some, None, Ok, Option, sym, refl, ap, ◌∙◌, subst, ⊎_elim, arith}
+use Rattle.std.proofs.Common.{◌≡◌, ℕ, ◌+◌, ◌^◌, ◌<◌, ◌≤◌, Bool, true, cond, not, ◌&&◌, eqb, List, [], ◌∷◌, ◌++◌, length, Some, None, Ok, Option, refl, subst, arith}
 use native.Mathlib.Nat.{pow-le-pow_right}
 use Rattle.std.specs.List.{AllByRecursion}
 use Rattle.std.proofs.lemmas.List.{length_push}
-use Rattle.std.proofs.lemmas.Bool.{cases_Bool, eqb-true, eq-eqb, lt-ltb}
+use Rattle.std.proofs.lemmas.Grind.{common_steps}
+use Rattle.std.proofs.lemmas.Bool.{lt-ltb}
 use Rattle.refusals.specs.Faults.{Fault, fault}
-use Rattle.fields.specs.Field.{Field, Sort, constant, blank, text, word, number, code, date, amount, long, worked, Working, number_of_row, number_of_owner, total, count, Value, num, Cell, family, any_of, fits, write_field}
+use Rattle.fields.specs.Field.{Field, Sort, constant, blank, text, word, number, code, date, amount, long, worked, Working, number_of_row, number_of_owner, total, count, Value, num, Cell, family, fits, write_field}
 use Rattle.numbers.specs.Digits.{printed}
 use Rattle.layouts.specs.Layout.{Layout, Group}
 use Rattle.layouts.specs.Lawful.{WorkedWide, Wide}
 use Rattle.records.specs.Cells.{Origin, of_book, entered, reckoned, origin_at, origin, origins, cells, sorts_asked}
 use Rattle.records.specs.Row.{Entry}
-use Rattle.records.proofs.Options.{some_none}
 use Rattle.records.proofs.Cells.{Shaped, WorkedAt, WorkedFit}
 use Rattle.records.specs.Worked.{reckoned_by}
 use Rattle.legality.specs.Before.{last_place, owner_place, count_of, reckon, sum_of}
@@ -19,12 +19,7 @@ use Rattle.legality.specs.Checks.{first_wrong, is_number, is_total, is_count}
 
 pub last_within : (m : ℕ) (es : List Entry) → last_place m es ≤ length es
 last_within m [] = omega arith
-last_within m (e ∷ es) =
-    let h = last_within m es in
-    ⊎_elim
-    (λ t. rw t (omega arith))
-    (λ f. rw f (⊎_elim (λ t. rw t (omega arith)) (λ g. rw g (omega arith)) (cases_Bool (eqb e.mark m))))
-    (cases_Bool (ltb 0 (last_place m es)))
+last_within m (e ∷ es) = grind (arith, common_steps, last_within m es)
 
 owner_within : (g : Option Group) (es : List Entry) → owner_place g es ≤ length es
 owner_within None es = omega arith
@@ -32,13 +27,13 @@ owner_within (Some g) es = last_within g.owner es
 
 pub count_within : (ms : List ℕ) (es : List Entry) → count_of ms es ≤ length es
 count_within ms [] = omega arith
-count_within ms (e ∷ es) = let h = count_within ms es in ⊎_elim (λ t. rw t (omega arith)) (λ f. rw f (omega arith)) (cases_Bool (any_of ms e.mark))
+count_within ms (e ∷ es) = grind (arith, common_steps, count_within ms es)
 
 -- every reckoned number fits a field of its width
 pub reckon_fits : (l : Layout) (before : List Entry) (e : Entry) → length before + 1 ≤ 65535 → sum_of l (before ++ e ∷ []) < 10 ^ 17 → (k : Working) (w : ℕ) → WorkedWide k w → reckon l before e k < 10 ^ w
-reckon_fits l before e n s number_of_row w h = subst (λ w. length before + 1 < 10 ^ w) (sym h) (omega arith)
-reckon_fits l before e n s number_of_owner w h = subst (λ w. owner_place l.group before < 10 ^ w) (sym h) (omega (arith, owner_within l.group before))
-reckon_fits l before e n s total w h = subst (λ w. sum_of l (before ++ e ∷ []) < 10 ^ w) (sym h) s
+reckon_fits l before e n s number_of_row w h = rw h (omega arith)
+reckon_fits l before e n s number_of_owner w h = rw h (omega (arith, owner_within l.group before))
+reckon_fits l before e n s total w h = rw h s
 reckon_fits l before e n s count w h =
     let c = count_within l.counted (before ++ e ∷ []) in
     let p : 10 ^ 6 ≤ 10 ^ w = pow-le-pow_right {n = 10} (omega arith) h.0 in
@@ -49,7 +44,7 @@ module _ (r : Working → ℕ) (small : (k : Working) (w : ℕ) → WorkedWide k
   prints_number a s (worked j) f e w g k o =
       let same : j ≡ k = cc in
       let less : r k < 10 ^ f.width = small k f.width (subst (λ x. WorkedWide x f.width) same w) in
-      (printed f.width (r k), subst (λ x. fits (record { start = f.start; width = f.width; sort = x; required = f.required }) ≡ true → write_field (record { start = f.start; width = f.width; sort = x; required = f.required }) (Some (num (r k))) ≡ Ok (printed f.width (r k))) (sym e) (λ g. rw (g, lt-ltb (r k) (10 ^ f.width) less)) g)
+      (printed f.width (r k), rw (g, e, lt-ltb (r k) (10 ^ f.width) less))
   prints_number a s (constant c) f e w g k o = absurd (cc)
   prints_number a s blank f e w g k o = absurd (cc)
   prints_number a s text f e w g k o = absurd (cc)
@@ -76,27 +71,15 @@ pub none_wrong : (j : ℕ) (looked : Working → Bool) (r : Working → ℕ) (os
 none_wrong j looked r [] = refl
 none_wrong j looked r (of_book ∷ os) = none_wrong j looked r os
 none_wrong j looked r (entered p ∷ os) = none_wrong j looked r os
-none_wrong j looked r (reckoned s k ∷ os) = step (looked k) (eqb (r k) (r k)) (eq-eqb (r k) (r k) refl) (none_wrong j looked r os)
-  where
-    step : (a b : Bool) → b ≡ true → first_wrong j looked r os (reckoned_by r os) ≡ None → cond (a && not b) (Some (fault j s)) (first_wrong j looked r os (reckoned_by r os)) ≡ None
-    step true true h n = n
-    step false b h n = n
-    step true false h n = absurd (cc)
-
-right : (n x : ℕ) (f : Fault) (o : Option Fault) → cond (not (eqb n x)) (Some f) o ≡ None → (n ≡ x) × (o ≡ None)
-right n x f o e = step (eqb n x) refl e
-  where
-    step : (t : Bool) → eqb n x ≡ t → cond (not t) (Some f) o ≡ None → (n ≡ x) × (o ≡ None)
-    step true h e = (eqb-true n x h, e)
-    step false h e = some_none e
+none_wrong j looked r (reckoned s k ∷ os) = grind (arith, common_steps, none_wrong j looked r os)
 
 right_at : (k : Working) (n x s : ℕ) (a b c : Option Fault) →
     cond (is_number k && not (eqb n x)) (Some (fault 23 s)) a ≡ None → cond (is_total k && not (eqb n x)) (Some (fault 24 s)) b ≡ None → cond (is_count k && not (eqb n x)) (Some (fault 25 s)) c ≡ None →
     (n ≡ x) × (a ≡ None) × (b ≡ None) × (c ≡ None)
-right_at number_of_row n x s a b c p q t = let h = right n x _ a p in (h.0, h.1, q, t)
-right_at number_of_owner n x s a b c p q t = let h = right n x _ a p in (h.0, h.1, q, t)
-right_at total n x s a b c p q t = let h = right n x _ b q in (h.0, p, h.1, t)
-right_at count n x s a b c p q t = let h = right n x _ c t in (h.0, p, q, h.1)
+right_at number_of_row n x s a b c p q t = (grind (arith, common_steps), grind (arith, common_steps), q, t)
+right_at number_of_owner n x s a b c p q t = (grind (arith, common_steps), grind (arith, common_steps), q, t)
+right_at total n x s a b c p q t = (grind (arith, common_steps), p, grind (arith, common_steps), t)
+right_at count n x s a b c p q t = (grind (arith, common_steps), p, q, grind (arith, common_steps))
 
 -- and where none is wrong they hold it
 pub all_right : (r : Working → ℕ) (os : List Origin) (vs : List Value) (ws : List ℕ) → Shaped os (cells os vs ws) →
@@ -110,4 +93,4 @@ all_right r (entered p ∷ os) (v ∷ vs) ws h a b c = all_right r os vs ws h.1 
 all_right r (reckoned s k ∷ os) vs [] h a b c = absurd h.0
 all_right r (reckoned s k ∷ os) vs (n ∷ ws) h a b c =
     let p = right_at k n (r k) s _ _ _ a b c in
-    ap (λ x. x ∷ ws) p.0 ∙ ap (λ l. r k ∷ l) (all_right r os vs ws h.1 p.1 p.2 p.3)
+    cc (p.0, all_right r os vs ws h.1 p.1 p.2 p.3)

@@ -63,8 +63,7 @@ module _ (l : Layout) (law : Lawful l) {D R : Type 0} (refused : R → Option Re
   accepts d es life closed =
       let p = lives_a_life l refused Shows d es life in
       let a = faithful d p.0 p.1 in
-      let t = exchange.accepts p.0 es p.2 (sym a.2 ∙ closed) in
-      subst (λ rows. Whole rows × (checked l rows ≡ Ok (accepted l es))) (sym a.0) t
+      rw a.0 (exchange.accepts p.0 es p.2 (sym a.2 ∙ closed))
 
   takes : (es : List Entry) → Legal l es → (hs : List Handed) → map meant hs ≡ es → AllByRecursion Inside hs → (d d' : D) (rs : List R) → Shows d (beginning (seen.places d)) → length es ≤ seen.places d → RanOf l refused Shows d (in_order hs) rs d' → AllByRecursion (λ r. refused r ≡ None) rs × (seen.state d' ≡ done) × (seen.rows d' ≡ rows_of l es)
   takes es legal hs is inside d d' rs fresh room ran =

@@ -1,15 +1,16 @@
 -- Values as they are handed in, and the values that they mean.
-use Rattle.std.proofs.Common.{◌≡◌, ℕ, ◌+◌, ◌<◌, Bool, true, false, cond, ◌&&◌, eqb, ltb, List, [], ◌∷◌, map, length, Some, None, Option, sym, refl, ◌∙◌, ⊎_elim}
+use Rattle.std.proofs.Common.{◌≡◌, ℕ, ◌+◌, ◌<◌, Bool, true, ltb, List, [], ◌∷◌, map, length, None, sym, refl, ◌∙◌, arith}
 use Rattle.std.specs.List.{AllByRecursion}
 use Rattle.std.proofs.lemmas.List.{length-map}
-use Rattle.std.proofs.lemmas.Bool.{cases_Bool, and_from, eqb-true, eq-eqb, lt-ltb}
+use Rattle.std.proofs.lemmas.Grind.{common_steps}
+use Rattle.std.proofs.lemmas.Bool.{eq-eqb, lt-ltb}
 use Rattle.refusals.specs.Refusals.{refusal}
 use Rattle.refusals.specs.Faults.{unless}
 use Rattle.fields.specs.Field.{Value}
 use Rattle.layouts.specs.Layout.{Layout}
 use Rattle.records.specs.Cells.{sorts_asked, first_other, wrong_value}
 use Rattle.records.specs.Row.{Entry, origins_of, values31}
-use Rattle.records.proofs.Options.{some_none, all_none, true_unless}
+use Rattle.records.proofs.Options.{all_none, true_unless}
 use Rattle.legality.specs.Checks.{Call, checks_with, entry_fault}
 use Rattle.legality.proofs.Place.{passed, passes}
 use Rattle.records.specs.Entries.{Handed, value_of, meant, inside, suits, handed31}
@@ -18,36 +19,21 @@ use Rattle.lives.specs.Draft.{Moment, allows, judged}
 use Rattle.lives.specs.Life.{Inside}
 
 wrong_parts : {V : Type 0} (ps : List (V → Bool)) (vs : List V) → wrong_value ps vs ≡ None → (length ps ≡ length vs) × (first_other 1 ps vs ≡ None)
-wrong_parts ps vs h =
-    ⊎_elim
-    (λ t. (eqb-true (length ps) (length vs) t, rw t at h))
-    (λ f. some_none (rw f at h))
-    (cases_Bool (eqb (length ps) (length vs)))
+wrong_parts ps vs h = (grind (arith, common_steps), grind (arith, common_steps))
 
 none_wrong : {V : Type 0} (ps : List (V → Bool)) (vs : List V) → length ps ≡ length vs → first_other 1 ps vs ≡ None → wrong_value ps vs ≡ None
 none_wrong ps vs l h = rw (eq-eqb (length ps) (length vs) l) h
-
-both : (a b : Bool) (n : ℕ) (r : Option ℕ) → cond (a && b) r (Some n) ≡ None → (a ≡ true) × (r ≡ None)
-both true true n r h = (refl, h)
-both true false n r h = some_none h
-both false b n r h = some_none h
 
 module _ (pool : List ℕ) where
   none_other : (n : ℕ) (ps : List (Value → Bool)) (gs : List Given) → first_other n (map (suits pool) ps) gs ≡ None → first_other n ps (map (value_of pool) gs) ≡ None
   none_other n [] gs h = refl
   none_other n (p ∷ ps) [] h = refl
-  none_other n (p ∷ ps) (g ∷ gs) h =
-      let q = both (p (value_of pool g)) (inside pool g) n (first_other (n + 1) (map (suits pool) ps) gs) h in
-      rw q.0 (none_other (n + 1) ps gs q.1)
+  none_other n (p ∷ ps) (g ∷ gs) h = grind (arith, common_steps, none_other (n + 1) ps gs)
 
   other_none : (n : ℕ) (ps : List (Value → Bool)) (gs : List Given) → AllByRecursion (λ g. inside pool g ≡ true) gs → first_other n ps (map (value_of pool) gs) ≡ None → first_other n (map (suits pool) ps) gs ≡ None
   other_none n [] gs i h = refl
   other_none n (p ∷ ps) [] i h = refl
-  other_none n (p ∷ ps) (g ∷ gs) i h =
-      ⊎_elim
-      (λ t. rw (and_from (p (value_of pool g)) (inside pool g) t i.0) (other_none (n + 1) ps gs i.1 (rw t at h)))
-      (λ f. some_none (rw f at h))
-      (cases_Bool (p (value_of pool g)))
+  other_none n (p ∷ ps) (g ∷ gs) i h = grind (arith, common_steps, i.0, other_none (n + 1) ps gs i.1)
 
 module _ (l : Layout) (h : Handed) where
   pub means : handed31 l h ≡ None → values31 l (meant h) ≡ None

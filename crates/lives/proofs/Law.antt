@@ -1,20 +1,18 @@
 -- The exchange law.
-use Rattle.std.proofs.Common.{◌≡◌, ℕ, ◌+◌, ◌-◌, ◌<◌, ◌≤◌, min, ◌&&◌, eqb, ltb, leb, List, [], ◌∷◌, ◌++◌, map, length, get_or, None, Ok, Option, sym, refl, ap, ◌∙◌, subst, append_assoc, arith}
+use Rattle.std.proofs.Common.{◌≡◌, ℕ, ◌+◌, ◌-◌, ◌<◌, ◌≤◌, List, [], ◌∷◌, ◌++◌, map, length, get_or, None, Ok, Option, sym, refl, ap, ◌∙◌, subst, append_assoc, arith}
 use Rattle.std.specs.List.{AllByRecursion}
 use Rattle.std.proofs.ByRecursion.{All-get_or}
 use Rattle.std.proofs.lemmas.List.{length-map, get_or-map, length_push}
-use Rattle.std.proofs.lemmas.Bool.{eq-eqb, and_from, lt-ltb, le-leb}
+use Rattle.std.proofs.lemmas.Bool.{eq-eqb, lt-ltb, le-leb}
 use Rattle.refusals.specs.declared.table.Refusal.{Refusal}
-use Rattle.refusals.specs.Refusals.{refusal}
-use Rattle.refusals.specs.Faults.{in_row, unless, first_some}
+use Rattle.refusals.specs.Faults.{first_some}
 use Rattle.fields.specs.Field.{num}
 use Rattle.layouts.specs.Layout.{Layout}
 use Rattle.layouts.specs.Lawful.{Lawful}
 use Rattle.records.specs.Row.{Entry, entry_of, row_faults, take_value}
-use Rattle.records.proofs.Options.{all_none, in_none, true_unless, answers}
 use Rattle.legality.specs.Before.{row_of, rows_after, rows_of, no_entry}
 use Rattle.legality.specs.Checks.{Call, starts, adds, closes}
-use Rattle.legality.specs.File.{Onward, Legal, accepted, checked, Whole}
+use Rattle.legality.specs.File.{Onward, Legal}
 use Rattle.legality.proofs.Law.{Sound, legal_shows, file_law}
 use Rattle.records.specs.Entries.{Handed, meant}
 use Rattle.lives.specs.Draft.{opened, done, Moment, moment, judged, next, Stepped}
@@ -44,7 +42,7 @@ module _ (l : Layout) where
       let v = moment (opened m) before rows places in
       let row = row_of l before (meant h) in
       let g = goes v ran.0 adds h r (not_judged l h v adds refl o.0 i.0 (omega arith)) ran.1 in
-      let rest = run_onward (y ∷ ys) h.mark (before ++ meant h ∷ []) (rows ++ row ∷ []) places o.1 i.1 (omega (arith, length_push rows row)) rs w (subst (λ z. Ran l z (onward (y ∷ ys)) rs w) g.1 ran.2) in
+      let rest = run_onward (y ∷ ys) h.mark (before ++ meant h ∷ []) (rows ++ row ∷ []) places o.1 i.1 (omega (arith, length_push rows row)) rs w (rw g.1 at ran.2) in
       ((g.0, rest.0), rest.1, rest.2 ∙ append_assoc rows (row ∷ []) (rows_after l (before ++ meant h ∷ []) (map meant (y ∷ ys))))
 
   run_all : (hs : List Handed) (places : ℕ) → Legal l (map meant hs) → AllByRecursion Inside hs → length hs ≤ places → (rs : List (Option Refusal)) (w : Moment) → Ran l (beginning places) (in_order hs) rs w →
@@ -53,17 +51,14 @@ module _ (l : Layout) where
   run_all (h ∷ hs) places o i room [] w ran = absurd ran
   run_all (h ∷ hs) places o i room (r ∷ rs) w ran =
       let g = goes (beginning places) ran.0 starts h r (not_judged l h (beginning places) starts refl o.0 i.0 (omega arith)) ran.1 in
-      let rest = run_onward hs h.mark (meant h ∷ []) (row_of l [] (meant h) ∷ []) places o.1 i.1 (omega arith) rs w (subst (λ z. Ran l z (onward hs) rs w) g.1 ran.2) in
+      let rest = run_onward hs h.mark (meant h ∷ []) (row_of l [] (meant h) ∷ []) places o.1 i.1 (omega arith) rs w (rw g.1 at ran.2) in
       ((g.0, rest.0), rest.1, rest.2)
 
   reads_value : (row : List ℕ) (e : Entry) (n : ℕ) → length row ≡ 750 → first_some (row_faults l row) ≡ None → entry_of l row ≡ e → 0 < n → n ≤ length e.values → take_value l row n ≡ Ok (get_or e.values (n - 1) (num 0))
   reads_value row e n len none is low high =
       let vs = (entry_of l row).values in
       let high' : n ≤ length vs = omega (arith, high, ap (λ x. length x.values) is) in
-      answers (first_some (unless (eqb (length row) 750) (refusal 1 (min (length row) 750) 0) ∷ (in_row 0 (first_some (row_faults l row)) ∷ (unless (ltb 0 n && leb n (length vs)) (refusal 31 n 0) ∷ [])))) _ _
-      (all_none (unless (eqb (length row) 750) (refusal 1 (min (length row) 750) 0) ∷ (in_row 0 (first_some (row_faults l row)) ∷ (unless (ltb 0 n && leb n (length vs)) (refusal 31 n 0) ∷ [])))
-      (true_unless _ _ (eq-eqb (length row) 750 len), (in_none 0 _ none, (true_unless _ _ (and_from (ltb 0 n) (leb n (length vs)) (lt-ltb 0 n low) (le-leb n (length vs) high')), tt))))
-      (ap (λ x. get_or x.values (n - 1) (num 0)) is)
+      rw (eq-eqb (length row) 750 len, none, lt-ltb 0 n low, le-leb n (length vs) high') (ap (λ x. Ok (get_or x.values (n - 1) (num 0))) is)
 
 module _ (l : Layout) (law : Lawful l) where
   legal : (v : Moment) (es : List Entry) → Life l v es → v.state ≡ done → Legal l es
@@ -87,7 +82,7 @@ module _ (l : Layout) (law : Lawful l) where
           (λ e. f.alone es fs (legal v es a x) (legal w fs b y) (sym (lived l a).rows ∙ e ∙ (lived l b).rows)),
           (λ e. (lived l a).rows ∙ ap (rows_of l) e ∙ sym (lived l b).rows),
         );
-        accepts = λ v es life e. subst (λ rows. Whole rows × (checked l rows ≡ Ok (accepted l es))) (sym (lived l life).rows) (f.passes es (legal v es life e));
+        accepts = λ v es life e. rw (lived l life).rows (f.passes es (legal v es life e));
         backed = λ rows a w h. let p = f.backed rows a w h in (p.0, p.1, p.2, p.3, (λ fs k e. f.alone fs p.0 k p.1 (e ∙ sym p.2)));
         hands = hands;
         handed = hand_all;

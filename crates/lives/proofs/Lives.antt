@@ -1,6 +1,5 @@
 -- What holds at every moment of a life.
-use Rattle.std.proofs.Common.{◌≡◌, ℕ, true, false, ltb, List, [], ◌∷◌, ◌++◌, length, Some, None, Option, sym, refl, ap, ◌∙◌, subst, append_assoc, append-nil}
-use Rattle.std.proofs.lemmas.Bool.{both_ways}
+use Rattle.std.proofs.Common.{◌≡◌, ℕ, true, ltb, List, [], ◌∷◌, ◌++◌, length, Some, None, Option, sym, refl, ap, subst, append_assoc, append-nil}
 use Rattle.refusals.specs.declared.table.Refusal.{Refusal}
 use Rattle.refusals.specs.Refusals.{refusal}
 use Rattle.refusals.specs.Faults.{unless}
@@ -31,36 +30,30 @@ module _ (l : Layout) where
   Stage done es = Legal l es
 
   add_more : (before es : List Entry) (x : Entry) → Added before es → entry_fault l (before ++ es) adds x ≡ None → Added before (es ++ x ∷ [])
-  add_more before [] x h p = (subst (λ b. entry_fault l b adds x ≡ None) (append-nil before) p, tt)
-  add_more before (e ∷ es) x h p = (h.0, add_more (before ++ e ∷ []) es x h.1 (subst (λ b. entry_fault l b adds x ≡ None) (sym (append_assoc before (e ∷ []) es)) p))
+  add_more before [] x h p = (rw append-nil at p, tt)
+  add_more before (e ∷ es) x h p = (h.0, add_more (before ++ e ∷ []) es x h.1 (rw (append_assoc before (e ∷ []) es) p))
 
   close_more : (before es : List Entry) (x : Entry) → Added before es → entry_fault l (before ++ es) closes x ≡ None → Onward l before (es ++ x ∷ [])
-  close_more before [] x h p = subst (λ b. entry_fault l b closes x ≡ None) (append-nil before) p
+  close_more before [] x h p = rw append-nil at p
   close_more before (e ∷ []) x h p = (h.0, p)
-  close_more before (e ∷ (y ∷ ys)) x h p = (h.0, close_more (before ++ e ∷ []) (y ∷ ys) x h.1 (subst (λ b. entry_fault l b closes x ≡ None) (sym (append_assoc before (e ∷ []) (y ∷ ys))) p))
-
-  begun_more : (es : List Entry) (x : Entry) → Begun es → entry_fault l es adds x ≡ None → Begun (es ++ x ∷ [])
-  begun_more [] x h p = absurd h
-  begun_more (e ∷ es) x h p = (h.0, add_more (e ∷ []) es x h.1 p)
-
-  legal_more : (es : List Entry) (x : Entry) → Begun es → entry_fault l es closes x ≡ None → Legal l (es ++ x ∷ [])
-  legal_more [] x h p = absurd h
-  legal_more (e ∷ es) x h p = (h.0, close_more (e ∷ []) es x h.1 p)
+  close_more before (e ∷ (y ∷ ys)) x h p = (h.0, close_more (before ++ e ∷ []) (y ∷ ys) x h.1 (rw (append_assoc before (e ∷ []) (y ∷ ys)) p))
 
   stage_more : (s : State) (c : Call) (m : ℕ) (es : List Entry) (x : Entry) → allows s c ≡ true → Stage s es → entry_fault l es c x ≡ None → Stage (state_after c m) (es ++ x ∷ [])
   stage_more fresh starts m es x a h p = subst (λ b. Begun (b ++ x ∷ [])) (sym h) (subst (λ b. entry_fault l b starts x ≡ None) h p, tt)
-  stage_more fresh adds m es x a h p = absurd (both_ways false refl a)
-  stage_more fresh closes m es x a h p = absurd (both_ways false refl a)
-  stage_more (opened k) starts m es x a h p = absurd (both_ways false refl a)
-  stage_more (opened k) adds m es x a h p = begun_more es x h p
-  stage_more (opened k) closes m es x a h p = legal_more es x h p
-  stage_more done starts m es x a h p = absurd (both_ways false refl a)
-  stage_more done adds m es x a h p = absurd (both_ways false refl a)
-  stage_more done closes m es x a h p = absurd (both_ways false refl a)
+  stage_more fresh adds m es x a h p = absurd (cc)
+  stage_more fresh closes m es x a h p = absurd (cc)
+  stage_more (opened k) starts m es x a h p = absurd (cc)
+  stage_more (opened k) adds m [] x a h p = absurd h
+  stage_more (opened k) adds m (e ∷ es) x a h p = (h.0, add_more (e ∷ []) es x h.1 p)
+  stage_more (opened k) closes m [] x a h p = absurd h
+  stage_more (opened k) closes m (e ∷ es) x a h p = (h.0, close_more (e ∷ []) es x h.1 p)
+  stage_more done starts m es x a h p = absurd (cc)
+  stage_more done adds m es x a h p = absurd (cc)
+  stage_more done closes m es x a h p = absurd (cc)
 
   rows_more : (before es : List Entry) (x : Entry) → rows_after l before es ++ row_of l (before ++ es) x ∷ [] ≡ rows_after l before (es ++ x ∷ [])
   rows_more before [] x = ap (λ b. row_of l b x ∷ []) (append-nil before)
-  rows_more before (e ∷ es) x = ap (λ r. row_of l before e ∷ r) (ap (λ b. rows_after l (before ++ e ∷ []) es ++ row_of l b x ∷ []) (sym (append_assoc before (e ∷ []) es)) ∙ rows_more (before ++ e ∷ []) es x)
+  rows_more before (e ∷ es) x = ap (λ r. row_of l before e ∷ r) (rw (append_assoc before (e ∷ []) es) at (rows_more (before ++ e ∷ []) es x))
 
   pub record Kept (v : Moment) (es : List Entry) : Type 0 where
     pub entries : v.entries ≡ es
@@ -73,13 +66,13 @@ module _ (l : Layout) where
       let passes = taken_passes l h v.entries c p.1.0 in
       record {
         entries = ap (λ b. b ++ meant h ∷ []) k.entries;
-        rows = ap (λ r. r ++ row_of l v.entries (meant h) ∷ []) k.rows ∙ ap (λ b. rows_of l es ++ row_of l b (meant h) ∷ []) k.entries ∙ rows_more [] es (meant h);
-        stage = stage_more v.state c h.mark es (meant h) (unless_true _ _ p.0) k.stage (subst (λ b. entry_fault l b c (meant h) ≡ None) k.entries passes);
+        rows = rw (k.rows, k.entries) (rows_more [] es (meant h));
+        stage = stage_more v.state c h.mark es (meant h) (unless_true _ _ p.0) k.stage (rw k.entries at passes);
       }
 
   went_on : (v v' : Moment) (es : List Entry) (c : Call) (h : Handed) (r : Option Refusal) → Kept v es → Stepped l v c h r v' → Kept v' (taking r es (meant h))
-  went_on v v' es c h None k s = subst (λ w. Kept w (es ++ meant h ∷ [])) (sym (s.leaves ∙ ap (λ j. next l j v c h) (sym s.answers))) (accepted v es c h k (sym s.answers))
-  went_on v v' es c h (Some r) k s = subst (λ w. Kept w es) (sym (s.leaves ∙ ap (λ j. next l j v c h) (sym s.answers))) k
+  went_on v v' es c h None k s = rw (s.leaves, ← s.answers) (accepted v es c h k (sym s.answers))
+  went_on v v' es c h (Some r) k s = rw (s.leaves, ← s.answers) k
 
   pub lived : {v : Moment} {es : List Entry} → Life l v es → Kept v es
   lived (begins places) = record { entries = refl; rows = refl; stage = refl }

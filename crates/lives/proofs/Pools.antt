@@ -1,5 +1,5 @@
 -- Every list of entries can be handed in: its texts one after the other in a pool.
-use Rattle.std.proofs.Common.{◌≡◌, ℕ, ◌+◌, ◌≤◌, true, List, [], ◌∷◌, ◌++◌, map, length, take, drop, refl, ap, ◌∙◌, subst, append_assoc, arith}
+use Rattle.std.proofs.Common.{◌≡◌, ℕ, ◌+◌, ◌≤◌, true, List, [], ◌∷◌, ◌++◌, map, length, take, drop, refl, ap, append_assoc, arith}
 use Rattle.std.specs.List.{AllByRecursion}
 use Rattle.std.proofs.lemmas.List.{length-append, take_at, drop_at}
 use Rattle.std.proofs.lemmas.Bool.{le-leb}
@@ -25,16 +25,10 @@ pack (num n ∷ vs) front =
 pack (txt t ∷ vs) front =
     let p = pack vs (front ++ t) in
     let r = p.0 in
-    let more : Packed (front ++ (t ++ r)) vs = subst (λ pool. Packed pool vs) (append_assoc front t r) p.1 in
-    let at : take (length t) (drop (length front) (front ++ (t ++ r))) ≡ t = ap (take (length t)) (drop_at front (t ++ r) (length front) refl) ∙ take_at t r (length t) refl in
-    let fits : length front + length t ≤ length (front ++ (t ++ r)) = omega (arith, length-append front (t ++ r), length-append t r) in (
-      t ++ r,
-      record {
-        given = Text (length front) (length t) ∷ more.given;
-        mean = ap (λ x. txt x ∷ map (value_of (front ++ (t ++ r))) more.given) at ∙ ap (λ xs. txt t ∷ xs) more.mean;
-        lie = (le-leb (length front + length t) (length (front ++ (t ++ r))) fits, more.lie);
-      },
-    )
+    let more : Packed (front ++ (t ++ r)) vs = rw append_assoc at p.1 in
+    let at : take (length t) (drop (length front) (front ++ (t ++ r))) ≡ t = rw (drop_at front (t ++ r) (length front) refl, take_at t r (length t) refl) in
+    let fits : length front + length t ≤ length (front ++ (t ++ r)) = omega (arith, length-append front (t ++ r), length-append t r) in
+    (t ++ r, record { given = Text (length front) (length t) ∷ more.given; mean = rw (at, more.mean); lie = (le-leb (length front + length t) (length (front ++ (t ++ r))) fits, more.lie) })
 
 hand : (e : Entry) → (h : Handed) × (meant h ≡ e) × Inside h
 hand e =
@@ -46,4 +40,4 @@ hand_all [] = ([], refl, tt)
 hand_all (e ∷ es) =
     let h = hand e in
     let more = hand_all es in
-    (h.0 ∷ more.0, ap (λ x. x ∷ map meant more.0) h.1 ∙ ap (λ xs. e ∷ xs) more.1, (h.2, more.2))
+    (h.0 ∷ more.0, rw (h.1, more.1), (h.2, more.2))

@@ -31,15 +31,21 @@ impl fmt::Display for InputFault {
 
 impl Error for InputFault {}
 
+impl From<CarrierFault> for InputFault {
+    fn from(fault: CarrierFault) -> InputFault {
+        InputFault::Form(fault)
+    }
+}
+
 // The row that the bytes hold in the hexadecimal form, if they hold one row.
 pub fn row_in(bytes: &[u8]) -> Result<[u8; 750], InputFault>
     ensures { IfOk result (λ row. opened unhexed 1501 bytes.now ≡ row ∷ []) }
 {
-    let rows: Opened<Hexadecimal> = Opened::open(bytes).map_err(InputFault::Form)?;
+    let rows: Opened<Hexadecimal> = Opened::open(bytes)?;
     if rows.count() != 1 {
         return Err(InputFault::Rows(rows.count()));
     }
     let mut row = [b' '; 750];
-    rows.copy_row(1, &mut row).map_err(InputFault::Form)?;
+    rows.copy_row(1, &mut row)?;
     Ok(row)
 }

@@ -93,6 +93,7 @@ fn put_place<B: Book + Named>(
     if let Ok(kind) = find_kind(book, 1, row) {
         let fields = book.fields(kind);
         let names = book.names(kind);
+        // By its place, of which `field_with` promises that the field there has the position.
         if let Some(i) = field_with(fields, position) {
             let placed = Placed { field: fields[i] };
             put_name(out, placed, names[i])?;

@@ -3,7 +3,8 @@
 
 use drafts::drafts::Draft;
 use example_entries::{charge, follower, header, trailer};
-use files::checking::{Accepted, check};
+use files::checking::Accepted;
+use files::reading::check_in;
 use forms::{Hexadecimal, Lined};
 use outgoing_receipts::OutgoingReceipts;
 use refusals::{CarrierFault, DraftFault, InputFault};
@@ -23,12 +24,6 @@ fn draft_file(memory: &mut [u8]) -> Result<(), DraftFault> {
 fn to_hexadecimal(lined: &[u8], memory: &mut [u8]) -> Result<usize, CarrierFault> {
     let opened: Opened<Lined> = Opened::open(lined)?;
     write_all::<Hexadecimal, _>(&opened, memory)
-}
-
-// What the reader says of rows in the hexadecimal form. `large_file` has these lines for the flat form: one function for both would need a crate of its own.
-fn check_hexadecimal(bytes: &[u8]) -> Result<Accepted, InputFault> {
-    let opened: Opened<Hexadecimal> = Opened::open(bytes)?;
-    Ok(check(&OutgoingReceipts, &opened)?)
 }
 
 fn tell(rt: &HostRuntime, what: &str, answer: Result<Accepted, InputFault>) -> anyhow::Result<()> {
@@ -55,7 +50,7 @@ fn run(rt: &HostRuntime) -> anyhow::Result<()> {
     tell(
         rt,
         "checked in the hexadecimal form",
-        check_hexadecimal(&digits),
+        check_in::<Hexadecimal, _>(&OutgoingReceipts, &digits),
     )?;
     // The last digit of the price, in position 201 of row 2.
     lined[952] = b'1';
@@ -63,7 +58,7 @@ fn run(rt: &HostRuntime) -> anyhow::Result<()> {
     tell(
         rt,
         "with a cent more in the price",
-        check_hexadecimal(&digits),
+        check_in::<Hexadecimal, _>(&OutgoingReceipts, &digits),
     )
 }
 

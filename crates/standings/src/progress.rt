@@ -120,10 +120,10 @@ impl Progress {
         if next.kind != group.follower {
             return Ok(());
         }
-        match &self.owner {
-            Some(owner) => owner.bind(book, group, next),
-            None => Err(FileFault::OwnerType { row: next.number }),
-        }
+        let Some(owner) = &self.owner else {
+            return Err(FileFault::OwnerType { row: next.number });
+        };
+        owner.bind(book, group, next)
     }
 
     // The sum with a good row.
@@ -166,7 +166,7 @@ impl Progress {
         self.owner.as_ref().map_or(0, |owner| owner.number)
     }
 
-    // What the worked fields of the next row hold, which is of the kind and brings the sum to `sum`.
+    // What the worked fields of the next row hold, which is of the kind and brings the sum to `sum`. Like `place`, it takes a number and a kind: a draft has no row yet.
     pub fn worked<B: Book>(&self, book: &B, row_number: usize, kind: Kind, sum: Cents) -> Worked
         ensures numbers { (es : List Entry) (e : Entry) → Stands B.meaning self.now es → row_number ≡ length es + 1 → kind.mark ≡ e.mark → (k : Working) → is_number k ≡ true → worked_of result k ≡ reckon B.meaning es e k }
         ensures all { (es : List Entry) (e : Entry) → Stands B.meaning self.now es → row_number ≡ length es + 1 → kind.mark ≡ e.mark → sum.value ≡ sum_of B.meaning (es ++ e ∷ []) → (k : Working) → worked_of result k ≡ reckon B.meaning es e k }

@@ -20,6 +20,7 @@ fn form_argument(word: Option<String>) -> anyhow::Result<FormName> {
     word.as_str().parse().ok().context(USAGE)
 }
 
+// The text names the form that the input should have, which the fault does not know.
 fn explain(from: FormName, fault: TranscribeFault) -> anyhow::Error {
     match fault {
         TranscribeFault::Form(broken) => {

@@ -16,15 +16,23 @@ pub enum FormName {
 #[derive(Clone, Copy, PartialEq, Eq, Debug)]
 pub struct UnknownForm;
 
+impl FormName {
+    pub fn word(self) -> &'static str
+        ensures { result.now ≡ word_of self }
+    {
+        match self {
+            FormName::Flat => "flat",
+            FormName::Lined => "lined",
+            FormName::Hexadecimal => "hexadecimal",
+        }
+    }
+}
+
 impl fmt::Display for FormName {
     ghost output = { λ f. Some (word_of f) };
 
     fn fmt<W: fmt::Write>(&self, f: &mut fmt::Formatter<W>) -> fmt::Result {
-        f.write_str(match self {
-            FormName::Flat => "flat",
-            FormName::Lined => "lined",
-            FormName::Hexadecimal => "hexadecimal",
-        })
+        f.write_str(self.word())
     }
 }
 

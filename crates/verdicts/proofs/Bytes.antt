@@ -1,16 +1,17 @@
 -- A row that a book reads holds bytes: what is read of a field are printable characters.
-use Rattle.std.proofs.Common.{◌≡◌, ℕ, zero, suc, ◌-◌, ◌<◌, Bool, false, not, ◌&&◌, leb, List, [], ◌∷◌, length, get_or, take, drop, replicate, None, Ok, sym, refl, ◌∙◌, subst, ⊎_elim, arith}
+use Rattle.std.proofs.Common.{◌≡◌, ℕ, zero, suc, ◌-◌, ◌<◌, Bool, false, List, [], ◌∷◌, length, get_or, take, drop, replicate, None, Ok, sym, refl, ◌∙◌, subst, ⊎_elim, arith}
 use Rattle.std.specs.List.{AllByRecursion}
 use Rattle.std.proofs.lemmas.List.{take-append-drop, length-drop, nil_from_length, get_or_past}
 use Rattle.std.proofs.ByRecursion.{All-get_or, All-from_get_or, All-append, All-weaker}
-use Rattle.std.proofs.lemmas.Bool.{cases_lt, not-false, or_parts, and_parts, leb-true, eqb-true}
+use Rattle.std.proofs.lemmas.Bool.Decides.{nat_tests}
+use Rattle.std.proofs.lemmas.Bool.{cases_lt, not-false, eqb-true}
 use Rattle.refusals.specs.Faults.{first_some}
 use Rattle.fields.specs.declared.flaws.Flaw.{Flaw}
 use Rattle.fields.specs.declared.flaws.Flaw.TheVariants.{Differs, Byte, Unfit}
 use Rattle.fields.specs.Places.{checked}
 use Rattle.fields.specs.Digits.{no_digit, check_digits, read_number}
 use Rattle.fields.specs.Text.{bad_text, trimmed, read_text}
-use Rattle.fields.specs.Field.{Field, Sort, Family, fixed, digits, letters, long_digits, figured, family, Cell, differs, as_num, raw_read, fits, read_field, constant, blank, text, word, number, code, date, amount, long, worked}
+use Rattle.fields.specs.Field.{Field, Sort, fixed, letters, family, Cell, differs, as_num, raw_read, fits, read_field, constant, blank, text, word, number, code, date, amount, long, worked}
 use Rattle.fields.proofs.Results.{then_ok, passed}
 use Rattle.fields.proofs.Finding.{none_in, ok_checked}
 use Rattle.fields.proofs.Trim.{padded-trimmed}
@@ -33,23 +34,23 @@ each flaw bad bs cs e fine =
     let none = (ok_checked bad flaw bs cs e).0 in
     All-from_get_or Small bs 0 (λ i l. fine i (get_or bs i 0) (none_in bad bs none i l))
 
-fixed_small : (c bs cs : List ℕ) → AllByRecursion Small c → checked Differs (differs c) bs ≡ Ok cs → AllByRecursion Small bs
-fixed_small c bs cs h e = each Differs (differs c) bs cs e (λ k b f. subst Small (sym (eqb-true b (get_or c k 32) (not-false _ f))) (at k))
-  where
-    at : (k : ℕ) → Small (get_or c k 32)
-    at k = ⊎_elim (λ l. All-get_or Small c k 32 l h) (λ l. subst Small (sym (get_or_past c k 32 l)) (omega arith)) (cases_lt k (length c))
+-- of bytes a place is one, past the end too
+pub small_at : (c : List ℕ) (d i : ℕ) → Small d → AllByRecursion Small c → Small (get_or c i d)
+small_at c d i s h = ⊎_elim (λ l. All-get_or Small c i d l h) (λ l. rw (get_or_past c i d l) s) (cases_lt i (length c))
+
+fixed_small : (c bs : List ℕ) (v : Cell) → AllByRecursion Small c → raw_read (fixed c) bs ≡ Ok v → AllByRecursion Small bs
+fixed_small c bs v h e =
+    let p = then_ok (checked Differs (differs c) bs) _ v e in
+    each Differs (differs c) bs p.0 p.1 (λ k b f. rw (eqb-true b (get_or c k 32) (not-false _ f)) (small_at c 32 k (omega arith) h))
 
 digits_small : (bs cs : List ℕ) → check_digits bs ≡ Ok cs → AllByRecursion Small bs
-digits_small bs cs e = each Byte no_digit bs cs e (λ k b f. let d = is_digit k b f in omega (arith, d.1))
+digits_small bs cs e = each Byte no_digit bs cs e (λ k b f. omega (arith, (is_digit k b f).1))
 
-text_small : (bs cs : List ℕ) → read_text bs ≡ Ok cs → AllByRecursion Small bs
-text_small bs cs e =
+text_small : (bs : List ℕ) (v : Cell) → raw_read letters bs ≡ Ok v → AllByRecursion Small bs
+text_small bs v e =
     let t = trimmed bs in
-    let front = each Byte (bad_text (length t)) t cs e (λ k b f.
-    let p = or_parts (not (leb 32 b && leb b 126)) _ f in
-    let q = and_parts (leb 32 b) (leb b 126) (not-false _ p.0) in
-    let m = leb-true b 126 q.1 in
-    omega (arith, m)) in
+    let p = then_ok (read_text bs) _ v e in
+    let front = each Byte (bad_text (length t)) t p.0 p.1 (λ k b f. grind (arith, nat_tests)) in
     subst (AllByRecursion Small) (padded-trimmed bs) (All-append Small t (replicate (length bs - length t) 32) front (blanks (length bs - length t)))
   where
     blanks : (n : ℕ) → AllByRecursion Small (replicate n 32)
@@ -62,32 +63,24 @@ number_small bs v e =
     let q = then_ok (check_digits bs) _ p.0 p.1 in
     digits_small bs q.0 q.1
 
-raw_small : (a : Family) (bs : List ℕ) (v : Cell) → ((c : List ℕ) → a ≡ fixed c → AllByRecursion Small c) → raw_read a bs ≡ Ok v → AllByRecursion Small bs
-raw_small (fixed c) bs v h e = let p = then_ok (checked Differs (differs c) bs) _ v e in fixed_small c bs p.0 (h c refl) p.1
-raw_small digits bs v h e = number_small bs v e
-raw_small letters bs v h e = let p = then_ok (read_text bs) _ v e in text_small bs p.0 p.1
-raw_small long_digits bs v h e = let p = then_ok (check_digits bs) _ v e in digits_small bs p.0 p.1
-raw_small (figured k) bs v h e = number_small bs v e
-
--- a lawful constant
-contents_small : (s : Sort) → ((c : List ℕ) → s ≡ constant c → AllByRecursion Small c) → (c : List ℕ) → family s ≡ fixed c → AllByRecursion Small c
-contents_small (constant d) h c e = let is : d ≡ c = cc in subst (AllByRecursion Small) is (h d refl)
-contents_small blank h c e = let is : [] ≡ c = cc in subst (AllByRecursion Small) is tt
-contents_small text h c e = let z : ◌≡◌ {A = ℕ} 0 1 = cc in absurd (omega arith)
-contents_small (word us) h c e = let z : ◌≡◌ {A = ℕ} 0 1 = cc in absurd (omega arith)
-contents_small number h c e = let z : ◌≡◌ {A = ℕ} 0 1 = cc in absurd (omega arith)
-contents_small (code cs) h c e = let z : ◌≡◌ {A = ℕ} 0 1 = cc in absurd (omega arith)
-contents_small date h c e = let z : ◌≡◌ {A = ℕ} 0 1 = cc in absurd (omega arith)
-contents_small amount h c e = let z : ◌≡◌ {A = ℕ} 0 1 = cc in absurd (omega arith)
-contents_small long h c e = let z : ◌≡◌ {A = ℕ} 0 1 = cc in absurd (omega arith)
-contents_small (worked k) h c e = let z : ◌≡◌ {A = ℕ} 0 1 = cc in absurd (omega arith)
+raw_small : (s : Sort) (bs : List ℕ) (v : Cell) → ((c : List ℕ) → s ≡ constant c → AllByRecursion Small c) → raw_read (family s) bs ≡ Ok v → AllByRecursion Small bs
+raw_small (constant c) bs v h e = fixed_small c bs v (h c refl) e
+raw_small blank bs v h e = fixed_small [] bs v tt e
+raw_small text bs v h e = text_small bs v e
+raw_small (word us) bs v h e = text_small bs v e
+raw_small number bs v h e = number_small bs v e
+raw_small (code cs) bs v h e = number_small bs v e
+raw_small date bs v h e = number_small bs v e
+raw_small amount bs v h e = number_small bs v e
+raw_small long bs v h e = let p = then_ok (check_digits bs) _ v e in digits_small bs p.0 p.1
+raw_small (worked k) bs v h e = number_small bs v e
 
 field_small : (f : Field) (bs : List ℕ) (v : Cell) → Contents f → read_field f bs ≡ Ok v → AllByRecursion Small bs
 field_small f bs v lawful e =
     let p = passed (fits f) Unfit _ v e in
     let q = then_ok (raw_read (family f.sort) bs) _ v p.1 in
     let printable = λ (c : List ℕ) (is : f.sort ≡ constant c). All-weaker (Between 32 126) Small (λ b h. omega (arith, h.1)) c (lawful.constants c is).0 in
-    raw_small (family f.sort) bs q.0 (contents_small f.sort printable) q.1
+    raw_small f.sort bs q.0 printable q.1
 
 cells_small : (fs : List Field) (bs : List ℕ) (cs : List Cell) → AllByRecursion Contents fs → length bs ≡ widths fs → read_cells fs bs ≡ Ok cs → AllByRecursion Small bs
 cells_small [] bs cs h l e = subst (AllByRecursion Small) (sym (nil_from_length bs l)) tt

@@ -5,14 +5,14 @@ ghost use Rattle.verdicts.specs.Faults.{told};
 ghost use Rattle.verdicts.specs.Input.{checked_lines, verdict_on};
 
 use books::letters::Letter;
-use files::checking::{Accepted, check};
-use forms::{Form, Hexadecimal};
+use files::checking::Accepted;
+use files::reading::check_in;
+use forms::Hexadecimal;
 use layouts::book::Book;
 use outgoing_receipts::OutgoingReceipts;
 use recurring_charges::RecurringCharges;
 use refusals::InputFault;
 use returned_receipts::ReturnedReceipts;
-use rows::Opened;
 
 // The most bytes of an input: a letter, LF and 40 lines.
 pub const LARGEST_INPUT: usize = 60_042;
@@ -20,8 +20,7 @@ pub const LARGEST_INPUT: usize = 60_042;
 fn check_lines<B: Book>(book: &B, lines: &[u8]) -> Result<Accepted, InputFault>
     ensures { told result ≡ checked_lines B.meaning lines.now }
 {
-    let opened: Opened<Hexadecimal> = Opened::open(lines)?;
-    Ok(check(book, &opened)?)
+    check_in::<Hexadecimal, B>(book, lines)
 }
 
 // A trait with one generic method would say the book of a letter once for all programs, and be longer than these arms.
@@ -45,8 +44,8 @@ pub fn verdict(input: &[u8]) -> Result<Accepted, InputFault>
     let [letter, b'\n', lines @ ..] = input else {
         return Err(InputFault::NoBook);
     };
-    match Letter::try_from(*letter) {
-        Ok(letter) => check_book(letter, lines),
-        Err(_) => Err(InputFault::NoBook),
-    }
+    let Ok(letter) = Letter::try_from(*letter) else {
+        return Err(InputFault::NoBook);
+    };
+    check_book(letter, lines)
 }

@@ -1,5 +1,5 @@
-use Rattle.legality.proofs.Law.{files_keep_the_law}
+use Rattle.legality.proofs.Law.{file_law}
 use Rattle.legality.proofs.file_law.Goals as goal
 
 pub returns : goal.returns
-returns c = files_keep_the_law
+returns c = file_law

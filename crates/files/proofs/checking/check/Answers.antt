@@ -3,9 +3,8 @@ use Rattle.std.proofs.lemmas.Result.{err_from_is_err_and}
 use Rattle.refusals.specs.Refusals.{of_file}
 use Rattle.legality.specs.File.{checked}
 use Rattle.files.specs.Told.{told}
-use Rattle.legality.proofs.Law.{file_law}
-use Rattle.files.proofs.Stages.{entries_to, taken_more, taken_stops, taken_all}
-use Rattle.files.proofs.Telling.{backed, passes}
+use Rattle.files.proofs.Stages.{taken_more, taken_stops, taken_all}
+use Rattle.files.proofs.Telling.{says}
 use Rattle.files.proofs.checking.check.Goals as goal
 use Rattle.files.proofs.checking.check.Goals.{else-loop-n-test, then-loop-n-test+in_ok-take_row+else-n-count}
 
@@ -13,37 +12,22 @@ pub loop-n-init : goal.loop-n-init
 loop-n-init g c = record { stands = c.new-progress.ensures g.B.Book.meaning; rest = refl }
 
 pub loop-n-preserved : goal.loop-n-preserved
-loop-n-preserved g c =
-    let l = g.B.Book.meaning in
-    let rows = g.S.Source.rows c.args.source.now in
-    let n = c.loop-n.n in
-    let back : n + 1 - 1 ≡ n = omega arith in
-    let h = c.in_ok-take_row.ensures (entries_to l rows (n - 1)) c.loop-n.invariant.stands in
-    rw back (taken_more l rows n _ _ _ _ c.unwrap.ensures c.copy_row.ensures c.loop-n.progress c.loop-n.invariant _ h.0 h.1)
+loop-n-preserved g c = taken_more g.B.Book.meaning (g.S.Source.rows c.args.source.now) c.loop-n.n _ _ _ _ c.unwrap.ensures c.copy_row.ensures c.loop-n.progress c.loop-n.invariant _ c.in_ok-take_row.ensures
 
 pub returns-in_err-take_row : goal.returns-in_err-take_row
 returns-in_err-take_row g c =
     let l = g.B.Book.meaning in
-    let law = g.met.B.Book.lawful in
-    let source = c.args.source.now in
-    let rows = g.S.Source.rows source in
+    let rows = g.S.Source.rows c.args.source.now in
     let n = c.loop-n.n in
     let p = err_from_is_err_and c.from_residual.result c.from_residual.ensures.1 in
-    let stop = taken_stops l rows n _ _ _ _ c.unwrap.ensures c.copy_row.ensures c.loop-n.progress c.loop-n.invariant _ (c.in_err-take_row.ensures (entries_to l rows (n - 1)) c.loop-n.invariant.stands) in
+    let stop = taken_stops l rows n _ _ _ _ c.unwrap.ensures c.copy_row.ensures c.loop-n.progress c.loop-n.invariant _ c.in_err-take_row.ensures in
     let answer : told c.from_residual.result ≡ checked l rows = ap told p.1 ∙ ap (λ f. Err (of_file f)) p.2 ∙ stop in
-    record {
-      answer = answer;
-      law = file_law l law;
-      backed = backed l law rows (g.S.Source.whole source) c.from_residual.result answer;
-      passes = passes l law rows (g.S.Source.whole source) c.from_residual.result answer;
-    }
+    says l g.met.B.Book.lawful rows (g.S.Source.whole c.args.source.now) _ answer
 
 pub returns : goal.returns
 returns g c =
     let l = g.B.Book.meaning in
-    let law = g.met.B.Book.lawful in
-    let source = c.args.source.now in
-    let rows = g.S.Source.rows source in
+    let rows = g.S.Source.rows c.args.source.now in
     let n = c.loop-n.n in
     let answer : told c.finish.result ≡ checked l rows =
     elim c.loop-n-test.branch [
@@ -51,14 +35,7 @@ returns g c =
           let end : length rows ≤ n - 1 = omega (arith, c.count-count.ensures) in
           taken_all l rows (n - 1) c.loop-n.progress _ w.progress-is end c.loop-n.invariant _ c.finish.ensures
       | then-loop-n-test+in_ok-take_row+else-n-count w ↦
-          let end : length rows ≤ n = omega (arith, c.count-count.ensures) in
-          let h = w.in_ok-take_row.ensures (entries_to l rows (n - 1)) c.loop-n.invariant.stands in
-          let taken = taken_more l rows n _ _ _ _ w.unwrap.ensures w.copy_row.ensures c.loop-n.progress c.loop-n.invariant _ h.0 h.1 in
-          taken_all l rows n _ _ w.progress-is end taken _ c.finish.ensures
+          let end : length rows ≤ n + 1 - 1 = omega (arith, c.count-count.ensures) in
+          taken_all l rows (n + 1 - 1) _ _ w.progress-is end (taken_more l rows n _ _ _ _ w.unwrap.ensures w.copy_row.ensures c.loop-n.progress c.loop-n.invariant _ w.in_ok-take_row.ensures) _ c.finish.ensures
     ] in
-    record {
-      answer = answer;
-      law = file_law l law;
-      backed = backed l law rows (g.S.Source.whole source) _ answer;
-      passes = passes l law rows (g.S.Source.whole source) _ answer;
-    }
+    says l g.met.B.Book.lawful rows (g.S.Source.whole c.args.source.now) _ answer

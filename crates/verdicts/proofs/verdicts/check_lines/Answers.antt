@@ -1,28 +1,21 @@
-use Rattle.std.proofs.Common.{◌+◌, ◌/◌, Err, ap, ◌∙◌}
-use Rattle.std.proofs.lemmas.Result.{err_from_is_err_and}
-use Rattle.forms.specs.Forms.{unhexed}
-use Rattle.rows.specs.Lines.{opened}
-use Rattle.legality.specs.File.{checked}
+use Rattle.std.proofs.Common.{◌≡◌, ℕ, ◌+◌, ◌/◌, List, Ok, Err, Result, MatchResult, ap}
+use Rattle.refusals.specs.declared.input.InputFault.{InputFault}
+use Rattle.refusals.specs.declared.input.InputFault.TheVariants.{TooLong, NoBook, Form, File}
+use Rattle.forms.specs.Forms.{hex_byte, unhexed}
+use Rattle.layouts.specs.Layout.{Layout}
+use Rattle.files.specs.declared.checking.Accepted.{Accepted}
+use Rattle.files.specs.Told.{AcceptedIn, RefusedIn}
 use Rattle.verdicts.specs.Faults.{told}
-use Rattle.verdicts.specs.Input.{named, in_names}
+use Rattle.verdicts.specs.Input.{named, checked_lines}
 use Rattle.verdicts.proofs.Breaking.{form_kept, form_broken}
 use Rattle.verdicts.proofs.verdicts.check_lines.Goals as goal
 
-pub returns-in_err-opened : goal.returns-in_err-opened
-returns-in_err-opened g c =
-    let broken = c.in_err-opened.ensures.opened in
-    let p = err_from_is_err_and c.from_residual.result c.from_residual.ensures.1 in
-    ap told p.1 ∙ ap (λ f. told (Err f)) p.2 ∙ rw (form_broken c.args.lines.now broken.0 broken.2) (ap (λ r. Err (named r.number (r.first / 1501 + 1) r.second)) broken.1)
-
-pub returns-in_err-check : goal.returns-in_err-check
-returns-in_err-check g c =
-    let kept = c.in_ok-opened.ensures.opened in
-    let p = err_from_is_err_and c.from_residual-in_err-check.result c.from_residual-in_err-check.ensures.1 in
-    let same = ap (λ bs. in_names (checked g.B.Book.meaning (opened unhexed 1501 bs))) kept.0 in
-    ap told p.1 ∙ ap (λ f. told (Err f)) p.2 ∙ rw (form_kept c.args.lines.now kept.1) (ap in_names c.in_err-check.ensures.answer ∙ same)
+lines_told : (l : Layout) (lines : List ℕ) (r : Result Accepted InputFault) → MatchResult r (AcceptedIn hex_byte unhexed 1501 l lines) (RefusedIn hex_byte unhexed 1501 l lines) → told r ≡ checked_lines l lines
+lines_told l lines (Ok a) kept = rw (form_kept lines kept.0, kept.1)
+lines_told l lines (Err (Form e)) broken = rw (form_broken lines broken.0 broken.2) (ap (λ r. Err (named r.number (r.first / 1501 + 1) r.second)) broken.1)
+lines_told l lines (Err (File e)) kept = rw (form_kept lines kept.0, kept.1)
+lines_told l lines (Err TooLong) none = absurd none
+lines_told l lines (Err NoBook) none = absurd none
 
 pub returns : goal.returns
-returns g c =
-    let kept = c.in_ok-opened.ensures.opened in
-    let same = ap (λ bs. in_names (checked g.B.Book.meaning (opened unhexed 1501 bs))) kept.0 in
-    rw (form_kept c.args.lines.now kept.1) (ap in_names c.in_ok-check.ensures.answer ∙ same)
+returns g c = lines_told g.B.Book.meaning c.args.lines.now c.check_in.result c.check_in.ensures
