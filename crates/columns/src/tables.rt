@@ -22,7 +22,7 @@ fn put_kind<B: Book + Named>(
     book: &B,
     kind: Kind,
 ) -> Result<(), AllocError>
-    ensures { OnOk result (Wrote out.old.items out.new.items (KindText (byte_of letter) kind.mark (kind_of B.meaning kind.mark).fields)) }
+    ensures { OnOk result (Wrote out.old.items out.new.items (KindText (byte_of letter) kind.mark (kind_of B.Meant.meaning kind.mark).fields)) }
 {
     let letter = u8::from(letter);
     put_heading(out, letter, kind.mark, book.title(kind))?;
@@ -36,7 +36,7 @@ fn put_kind<B: Book + Named>(
 }
 
 fn put_book<B: Book + Named>(out: &mut Vec<u8>, letter: Letter, book: &B) -> Result<(), AllocError>
-    ensures { OnOk result (Wrote out.old.items out.new.items (TableText (byte_of letter) B.meaning)) }
+    ensures { OnOk result (Wrote out.old.items out.new.items (TableText (byte_of letter) B.Meant.meaning)) }
 {
     for kind in book.kinds() {
         put_kind(out, letter, book, *kind)?;

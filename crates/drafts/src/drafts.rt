@@ -59,7 +59,7 @@ impl<B: Book, C: Carrier> Draft<B, C> {
         ensures carrier { result.carrier ≡ carrier }
         ensures book { result.book ≡ book }
         ensures state { result.state ≡ Fresh }
-        ensures stands { Stands B.meaning result.progress [] }
+        ensures stands { Stands B.Meant.meaning result.progress [] }
     {
         Draft {
             book,
@@ -71,10 +71,10 @@ impl<B: Book, C: Carrier> Draft<B, C> {
 
     // The checks before the row is printed.
     fn admit(&self, call: Call, entry: Entry) -> Result<Admitted, DraftFault>
-        ensures refused { (v : Moment) → ShowsOn B.meaning C.Carrier self.now v → refusal_in of_draft result ≡ first_some (admission B.meaning v (call_of call) (handed_of entry.entry)) }
+        ensures refused { (v : Moment) → ShowsOn B.Meant.meaning C.Carrier self.now v → refusal_in of_draft result ≡ first_some (admission B.Meant.meaning v (call_of call) (handed_of entry.entry)) }
         ensures state { IfOk result (λ a. state_of a.state ≡ state_after (call_of call) entry.entry.mark) }
         ensures kind { IfOk result (λ a. a.kind.mark ≡ entry.entry.mark) }
-        ensures number { (v : Moment) → ShowsOn B.meaning C.Carrier self.now v → IfOk result (λ a. a.row_number ≡ length v.entries + 1) }
+        ensures number { (v : Moment) → ShowsOn B.Meant.meaning C.Carrier self.now v → IfOk result (λ a. a.row_number ≡ length v.entries + 1) }
     {
         self.state.allow(call)?;
         let row_number = self.progress.next_number()?;
@@ -92,8 +92,8 @@ impl<B: Book, C: Carrier> Draft<B, C> {
     // The row of an admitted entry: its fields, its conditions, its owner and the sum.
     // The total is known only once the entry's own amount was read from its row, so the row is printed again with it.
     fn prepare(&self, admitted: Admitted, entry: Entry) -> Result<Prepared, DraftFault>
-        ensures refused { (v : Moment) → ShowsOn B.meaning C.Carrier self.now v → Ready B.meaning v (handed_of entry.entry) admitted.row_number admitted.kind.mark → refusal_in of_draft result ≡ first_some (contents B.meaning v (handed_of entry.entry)) }
-        ensures fit { (v : Moment) → ShowsOn B.meaning C.Carrier self.now v → Ready B.meaning v (handed_of entry.entry) admitted.row_number admitted.kind.mark → IfOk result (λ p. Fit B.meaning v (handed_of entry.entry) p.row p.sum.value) }
+        ensures refused { (v : Moment) → ShowsOn B.Meant.meaning C.Carrier self.now v → Ready B.Meant.meaning v (handed_of entry.entry) admitted.row_number admitted.kind.mark → refusal_in of_draft result ≡ first_some (contents B.Meant.meaning v (handed_of entry.entry)) }
+        ensures fit { (v : Moment) → ShowsOn B.Meant.meaning C.Carrier self.now v → Ready B.Meant.meaning v (handed_of entry.entry) admitted.row_number admitted.kind.mark → IfOk result (λ p. Fit B.Meant.meaning v (handed_of entry.entry) p.row p.sum.value) }
     {
         let mut row = [b' '; 750];
         print(&self.book, entry, UNWORKED, admitted.row_number, &mut row)?;
@@ -114,7 +114,7 @@ impl<B: Book, C: Carrier> Draft<B, C> {
 
     // One call: the entry is taken, or refused and nothing changes.
     fn take_entry(&mut self, call: Call, entry: Entry) -> Result<(), DraftFault>
-        ensures told { CalledOn B.meaning C.Carrier self.old (call_of call) (handed_of entry.entry) result self.new }
+        ensures told { CalledOn B.Meant.meaning C.Carrier self.old (call_of call) (handed_of entry.entry) result self.new }
         ensures kept { Kept self.old self.new result }
         ensures wrote { WroteOn C.Carrier self.old self.new }
     {
@@ -133,7 +133,7 @@ impl<B: Book, C: Carrier> Draft<B, C> {
 
     // Takes the header. The draft must be fresh.
     pub fn start(&mut self, entry: Entry) -> Result<(), DraftFault>
-        ensures told { CalledOn B.meaning C.Carrier self.old starts (handed_of entry.entry) result self.new }
+        ensures told { CalledOn B.Meant.meaning C.Carrier self.old starts (handed_of entry.entry) result self.new }
         ensures kept { Kept self.old self.new result }
         ensures wrote { WroteOn C.Carrier self.old self.new }
     {
@@ -142,7 +142,7 @@ impl<B: Book, C: Carrier> Draft<B, C> {
 
     // Takes an entry of any other kind than header and trailer. The draft must be open.
     pub fn add(&mut self, entry: Entry) -> Result<(), DraftFault>
-        ensures told { CalledOn B.meaning C.Carrier self.old adds (handed_of entry.entry) result self.new }
+        ensures told { CalledOn B.Meant.meaning C.Carrier self.old adds (handed_of entry.entry) result self.new }
         ensures kept { Kept self.old self.new result }
         ensures wrote { WroteOn C.Carrier self.old self.new }
     {
@@ -151,7 +151,7 @@ impl<B: Book, C: Carrier> Draft<B, C> {
 
     // Takes the trailer. The draft must be open, and is then closed.
     pub fn close(&mut self, entry: Entry) -> Result<(), DraftFault>
-        ensures told { CalledOn B.meaning C.Carrier self.old closes (handed_of entry.entry) result self.new }
+        ensures told { CalledOn B.Meant.meaning C.Carrier self.old closes (handed_of entry.entry) result self.new }
         ensures kept { Kept self.old self.new result }
         ensures wrote { WroteOn C.Carrier self.old self.new }
     {

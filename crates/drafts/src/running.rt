@@ -19,18 +19,18 @@ pub struct Request<'a, 'b> {
 
 // The law of exchange between entries and rows, for drafts of one book on any two carriers.
 pub fn exchange_law<B: Book, C: Carrier, D: Carrier>()
-    ensures { ExchangedOn B B.meaning C.Carrier D.Carrier }
+    ensures { ExchangedOn B B.Meant.meaning C.Carrier D.Carrier }
 {}
 
 // And for what is read from any source.
 pub fn reading_law<B: Book, C: Carrier, S: Source>()
-    ensures { ReadBackOn B B.meaning C.Carrier S.Source.rows }
+    ensures { ReadBackOn B B.Meant.meaning C.Carrier S.Source.rows }
 {}
 
 // A request names its call by a value and no closure, since the contract of a run reads it.
 fn apply<B: Book, C: Carrier>(draft: &mut Draft<B, C>, request: Request) -> Result<(), DraftFault>
     ensures wrote { WroteOn C.Carrier draft.old draft.new }
-    ensures told { CalledOn B.meaning C.Carrier draft.old (asked_in request.entry).call (asked_in request.entry).handed result draft.new }
+    ensures told { CalledOn B.Meant.meaning C.Carrier draft.old (asked_in request.entry).call (asked_in request.entry).handed result draft.new }
 {
     match request.call {
         Call::Start => draft.start(request.entry),
@@ -41,10 +41,10 @@ fn apply<B: Book, C: Carrier>(draft: &mut Draft<B, C>, request: Request) -> Resu
 
 // Makes the calls in their order, accepted and refused in any mixture, and answers how many were accepted.
 pub fn run<B: Book, C: Carrier>(draft: &mut Draft<B, C>, requests: &[Request]) -> usize
-    ensures ran { RanOn B.meaning C.Carrier draft.old (map asked_in requests.now) result draft.new }
+    ensures ran { RanOn B.Meant.meaning C.Carrier draft.old (map asked_in requests.now) result draft.new }
     ensures wrote { WroteOn C.Carrier draft.old draft.new }
-    ensures law { ExchangedOn B B.meaning C.Carrier C.Carrier }
-    ensures read { ReadBackOn B B.meaning C.Carrier C.Source.rows }
+    ensures law { ExchangedOn B B.Meant.meaning C.Carrier C.Carrier }
+    ensures read { ReadBackOn B B.Meant.meaning C.Carrier C.Source.rows }
 {
     // Counted in a loop, since each call changes the draft that the next one is made on.
     let mut accepted = 0;

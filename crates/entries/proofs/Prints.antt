@@ -68,13 +68,13 @@ module _ (pool : List ℕ) where
 
   module _ (r : s.Working → ℕ) where
     -- the first field set apart
-    set_apart : (o : Origin) (os : List Origin) (f : s.Field) (fs : List s.Field) (vs : List Value) →
+    set_apart : (o : Origin) (os : List Origin) (f : s.Field) (fs : List s.Field) (vs : List Value) → Ready pool vs o →
         write_cells (f ∷ fs) (cells (o ∷ os) (map (value_of pool) vs) (reckoned_by r (o ∷ os)))
         ≡ and_then (at_field f (s.write_field f (cell_for pool r vs o))) (λ b. and_then (write_cells fs (cells os (map (value_of pool) (rest_after vs o)) (reckoned_by r os))) (λ bs. Ok (b ++ bs)))
-    set_apart of_book os f fs vs = refl
-    set_apart (entered q) os f fs [] = refl
-    set_apart (entered q) os f fs (v ∷ vs) = refl
-    set_apart (reckoned a k) os f fs vs = refl
+    set_apart of_book os f fs vs h = refl
+    set_apart (entered q) os f fs [] h = absurd h
+    set_apart (entered q) os f fs (v ∷ vs) h = refl
+    set_apart (reckoned a k) os f fs vs h = refl
 
     module _ (whole : Result (List ℕ) Fault) where
       -- what is left of the whole are these fields, from this position on, with these values
@@ -90,8 +90,11 @@ module _ (pool : List ℕ) where
       printing_at fields i d values row l p = rw (drop_more fields i d l) at p
 
       module _ (f : Field) (fields : List Field) (values : List Value) (row : List ℕ) (p : Printing (f ∷ fields) values row) where
+        pub printing_ready : Ready pool values (origin (field_of f))
+        printing_ready = (fit_next (origin (field_of f)) (origins (map field_of fields)) values p.fit).0
+
         rest_is : print_fields pool r (f ∷ fields) values ≡ and_then (at_field (field_of f) (s.write_field (field_of f) (cell_for pool r values (origin (field_of f))))) (λ b. and_then (print_fields pool r fields (rest_after values (origin (field_of f)))) (λ bs. Ok (b ++ bs)))
-        rest_is = set_apart (origin (field_of f)) (origins (map field_of fields)) (field_of f) (map field_of fields) values
+        rest_is = set_apart (origin (field_of f)) (origins (map field_of fields)) (field_of f) (map field_of fields) values printing_ready
 
         module _ (c : s.Cell) (is : c ≡ cell_for pool r values (origin (field_of f))) where
           pub printing_refused : (n : ℕ) (x : Refusal) → Some x ≡ in_row n (fault_in (at_field (field_of f) (s.write_field (field_of f) c))) → Some x ≡ in_row n (fault_in whole)

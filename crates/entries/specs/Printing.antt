@@ -5,6 +5,7 @@ use Rattle.fields.specs.Field.{Working, Cell, num}
 use Rattle.fields.specs.Meaning.{field_of}
 use Rattle.fields.specs.declared.field.Field.{Field}
 use Rattle.records.specs.declared.entries.Value.{Value}
+use Rattle.records.specs.declared.entries.Value.TheVariants.{Number}
 use Rattle.records.specs.Cells.{Origin, of_book, entered, reckoned, origins, cells, write_cells}
 use Rattle.records.specs.Entries.{value_of, inside}
 use Rattle.records.specs.Worked.{reckoned_by}
@@ -12,7 +13,7 @@ use Rattle.records.specs.Worked.{reckoned_by}
 -- what a field holds, where vs are the values that are left
 abbrev pub cell_for : List ℕ → (Working → ℕ) → List Value → Origin → Cell
 cell_for pool r vs of_book = None
-cell_for pool r [] (entered p) = None
+cell_for pool r [] (entered p) = Some (value_of pool (Number 0))
 cell_for pool r (v ∷ vs) (entered p) = Some (value_of pool v)
 cell_for pool r vs (reckoned a k) = Some (num (r k))
 
@@ -23,10 +24,10 @@ rest_after [] (entered p) = []
 rest_after (v ∷ vs) (entered p) = vs
 rest_after vs (reckoned a k) = vs
 
--- the next value, if one is asked for, lies in the pool
+-- the next value is there, if one is asked for, and lies in the pool
 abbrev pub Ready : List ℕ → List Value → Origin → Type 0
 Ready pool vs of_book = Unit {0}
-Ready pool [] (entered p) = Unit {0}
+Ready pool [] (entered p) = ⊥
 Ready pool (v ∷ vs) (entered p) = inside pool v ≡ true
 Ready pool vs (reckoned a k) = Unit {0}
 

@@ -45,9 +45,7 @@ fn next_content<'b>(
 {
     match origin_of(field) {
         Origin::Book => Content::Fixed,
-        Origin::Entered(_) => values
-            .next()
-            .map_or(Content::Fixed, |value| content_of(*value, pool)),
+        Origin::Entered(_) => content_of(*values.next().unwrap(), pool),
         Origin::Worked(working) => Content::Number(worked.number(working)),
     }
 }
@@ -82,8 +80,8 @@ pub fn print<B: Book>(
     row_number: usize,
     row: &mut [u8; 750],
 ) -> Result<(), EntryFault>
-    ensures refused { refusal_in of_entry result ≡ first_some (in_row row_number (mark10 B.meaning entry.entry.mark) ∷ (value_fault (handed31 B.meaning (handed_of entry.entry)) ∷ (in_row row_number (fault_in (print_row B.meaning (meant (handed_of entry.entry)) (reckoned_by (worked_of worked) (origins_of B.meaning entry.entry.mark)))) ∷ []))) }
-    ensures printed { MatchResult result (λ _. print_row B.meaning (meant (handed_of entry.entry)) (reckoned_by (worked_of worked) (origins_of B.meaning entry.entry.mark)) ≡ Ok row.new) (λ _. row.new ≡ row.old) }
+    ensures refused { refusal_in of_entry result ≡ first_some (in_row row_number (mark10 B.Meant.meaning entry.entry.mark) ∷ (value_fault (handed31 B.Meant.meaning (handed_of entry.entry)) ∷ (in_row row_number (fault_in (print_row B.Meant.meaning (meant (handed_of entry.entry)) (reckoned_by (worked_of worked) (origins_of B.Meant.meaning entry.entry.mark)))) ∷ []))) }
+    ensures printed { MatchResult result (λ _. print_row B.Meant.meaning (meant (handed_of entry.entry)) (reckoned_by (worked_of worked) (origins_of B.Meant.meaning entry.entry.mark)) ≡ Ok row.new) (λ _. row.new ≡ row.old) }
 {
     let kind = find_marked(book, row_number, entry.mark)?;
     check_values(book, entry)?;

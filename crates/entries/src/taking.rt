@@ -63,8 +63,8 @@ fn taken_from<'a>(field: &Field, row: &'a [u8], whole: &[u8; 750]) -> Taken<'a>
 
 // Value `number`, from 1, of one row.
 pub fn take<'a, B: Book>(book: &B, row: &'a [u8], number: usize) -> Result<Taken<'a>, TakeFault>
-    ensures told { MatchResult result (λ taken. (take_value B.meaning row.now number ≡ Ok (value_in taken)) × TakenAt row.entry.ref_ptr (field_of_value B.meaning row.now number) taken) (λ e. take_value B.meaning row.now number ≡ Err (of_take e)) }
-    ensures answer { took result ≡ take_value B.meaning row.now number }
+    ensures told { MatchResult result (λ taken. (take_value B.Meant.meaning row.now number ≡ Ok (value_in taken)) × TakenAt row.entry.ref_ptr (field_of_value B.Meant.meaning row.now number) taken) (λ e. take_value B.Meant.meaning row.now number ≡ Err (of_take e)) }
+    ensures answer { took result ≡ take_value B.Meant.meaning row.now number }
 {
     let whole = <&[u8; 750]>::try_from(row).map_err(|_| CarrierFault::BadForm(row.len().min(750)))?;
     let kind = judge(book, 0, whole)?;

@@ -51,7 +51,7 @@ fn check_each(fields: &[Field], values: &[Value], pool: &[u8]) -> Result<(), Val
 
 // Too few or too many values are refused with the lesser count plus 1, else the first that does not suit.
 pub fn check_values<B: Book>(book: &B, entry: Entry) -> Result<(), ValueFault>
-    ensures { refusal_in of_value result ≡ value_fault (handed31 B.meaning (handed_of entry.entry)) }
+    ensures { refusal_in of_value result ≡ value_fault (handed31 B.Meant.meaning (handed_of entry.entry)) }
 {
     let fields = book.fields(Kind { mark: entry.mark });
     let asked = count_entered(fields);

@@ -12,7 +12,7 @@ pub any_code : (cs : List ℕ) (n : ℕ) → list_any (λ c. nat_eq c n) cs ≡ 
 any_code [] n = refl
 any_code (c ∷ cs) n = rw (same_either c n, any_code cs n)
 
-same_texts : (u t : List ℕ) → pointwise nat_eq u t ≡ same u t
+pub same_texts : (u t : List ℕ) → pointwise nat_eq u t ≡ same u t
 same_texts [] [] = refl
 same_texts [] (b ∷ t) = refl
 same_texts (a ∷ u) [] = refl

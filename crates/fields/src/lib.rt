@@ -10,3 +10,5 @@ pub mod laws;
 mod parts;
 mod texts;
 mod values;
+
+pub use values::is_same;

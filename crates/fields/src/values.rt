@@ -1,6 +1,6 @@
 // Whether a content may stand in its field: it is filled where it must be, and its list or the calendar has it.
 ghost use Rattle.std.specs.Prelude.{◌≡◌, map, Ok, Err, MatchResult};
-ghost use Rattle.fields.specs.Field.{any_of, one_of, filled, listed, gate, family};
+ghost use Rattle.fields.specs.Field.{any_of, one_of, same, filled, listed, gate, family};
 ghost use Rattle.fields.specs.Meaning.{sort_of, cell_of};
 
 use crate::bytes::has_nonzero;
@@ -12,6 +12,14 @@ fn has_code(codes: &[u64], number: u64) -> bool
     ensures { result ≡ any_of codes.now number }
 {
     codes.contains(&number)
+}
+
+// Whether two texts have the same bytes.
+#[tactic(auto, using(crate::proofs::Lists::same_texts))]
+pub fn is_same(word: &[u8], text: &[u8]) -> bool
+    ensures { result ≡ same word.now text.now }
+{
+    word == text
 }
 
 fn has_word(words: &[&[u8]], text: &[u8]) -> bool

@@ -31,8 +31,8 @@ fn read_next<'a, B: Book>(
     book: &B,
     row: &'a [u8; 750],
 ) -> Result<NextRow<'a>, FileFault>
-    ensures refused { (es : List Entry) → Stands B.meaning progress.now es → refusal_in of_file result ≡ in_row (length es + 1) (first_some (read_checks B.meaning es row.now)) }
-    ensures found { (es : List Entry) → Stands B.meaning progress.now es → IfOk result (IsNext B.meaning es) }
+    ensures refused { (es : List Entry) → Stands B.Meant.meaning progress.now es → refusal_in of_file result ≡ in_row (length es + 1) (first_some (read_checks B.Meant.meaning es row.now)) }
+    ensures found { (es : List Entry) → Stands B.Meant.meaning progress.now es → IfOk result (IsNext B.Meant.meaning es) }
     ensures row { IfOk result (λ next. next.row.now ≡ row.now) }
 {
     let number = progress.next_number()?;
@@ -43,7 +43,7 @@ fn read_next<'a, B: Book>(
 }
 
 fn check_numbers<B: Book>(progress: &Progress, book: &B, next: NextRow) -> Result<(), FileFault>
-    ensures { (es : List Entry) → Stands B.meaning progress.now es → IsNext B.meaning es next.entry → refusal_in of_file result ≡ in_row next.entry.number (wrong 23 is_number B.meaning es next.entry.row.now) }
+    ensures { (es : List Entry) → Stands B.Meant.meaning progress.now es → IsNext B.Meant.meaning es next.entry → refusal_in of_file result ≡ in_row next.entry.number (wrong 23 is_number B.Meant.meaning es next.entry.row.now) }
 {
     // The sum is not looked at yet.
     let worked = progress.worked(book, next.number, next.kind, Cents::zero());
@@ -56,7 +56,7 @@ fn check_totals<B: Book>(
     next: NextRow,
     sum: Cents,
 ) -> Result<(), FileFault>
-    ensures { (es : List Entry) → Stands B.meaning progress.now es → IsNext B.meaning es next.entry → IsSumWith B.meaning es next.entry sum → refusal_in of_file result ≡ in_row next.entry.number (first_some (wrong 24 is_total B.meaning es next.entry.row.now ∷ (wrong 25 is_count B.meaning es next.entry.row.now ∷ []))) }
+    ensures { (es : List Entry) → Stands B.Meant.meaning progress.now es → IsNext B.Meant.meaning es next.entry → IsSumWith B.Meant.meaning es next.entry sum → refusal_in of_file result ≡ in_row next.entry.number (first_some (wrong 24 is_total B.Meant.meaning es next.entry.row.now ∷ (wrong 25 is_count B.Meant.meaning es next.entry.row.now ∷ []))) }
 {
     let worked = progress.worked(book, next.number, next.kind, sum);
     check_worked(book.fields(next.kind), Look::Totals, worked, next)?;
@@ -65,8 +65,8 @@ fn check_totals<B: Book>(
 
 // The sum with a row that was read, once its owner and its worked fields are right.
 fn work_out<B: Book>(progress: &Progress, book: &B, next: NextRow) -> Result<Cents, FileFault>
-    ensures refused { (es : List Entry) → Stands B.meaning progress.now es → IsNext B.meaning es next.entry → refusal_in of_file result ≡ in_row next.entry.number (first_some (work_checks B.meaning es next.entry.row.now)) }
-    ensures sum { (es : List Entry) → Stands B.meaning progress.now es → IsNext B.meaning es next.entry → IfOk result (IsSumWith B.meaning es next.entry) }
+    ensures refused { (es : List Entry) → Stands B.Meant.meaning progress.now es → IsNext B.Meant.meaning es next.entry → refusal_in of_file result ≡ in_row next.entry.number (first_some (work_checks B.Meant.meaning es next.entry.row.now)) }
+    ensures sum { (es : List Entry) → Stands B.Meant.meaning progress.now es → IsNext B.Meant.meaning es next.entry → IfOk result (IsSumWith B.Meant.meaning es next.entry) }
 {
     progress.tie(book, next)?;
     check_numbers(progress, book, next)?;
@@ -76,7 +76,7 @@ fn work_out<B: Book>(progress: &Progress, book: &B, next: NextRow) -> Result<Cen
 }
 
 fn take_row<B: Book>(progress: &mut Progress, book: &B, row: &[u8; 750]) -> Result<(), FileFault>
-    ensures { (es : List Entry) → Stands B.meaning progress.old es → MatchResult result (λ _. (row_fault B.meaning es row.now ≡ None) × Stands B.meaning progress.new (es ++ entry_of B.meaning row.now ∷ [])) (λ e. row_fault B.meaning es row.now ≡ Some (of_file e)) }
+    ensures { (es : List Entry) → Stands B.Meant.meaning progress.old es → MatchResult result (λ _. (row_fault B.Meant.meaning es row.now ≡ None) × Stands B.Meant.meaning progress.new (es ++ entry_of B.Meant.meaning row.now ∷ [])) (λ e. row_fault B.Meant.meaning es row.now ≡ Some (of_file e)) }
 {
     let next = read_next(progress, book, row)?;
     let sum = work_out(progress, book, next)?;
@@ -85,7 +85,7 @@ fn take_row<B: Book>(progress: &mut Progress, book: &B, row: &[u8; 750]) -> Resu
 }
 
 fn finish<B: Book>(progress: &Progress, book: &B) -> Result<Accepted, FileFault>
-    ensures { (es : List Entry) → Stands B.meaning progress.now es → told result ≡ checked_after B.meaning es [] }
+    ensures { (es : List Entry) → Stands B.Meant.meaning progress.now es → told result ≡ checked_after B.Meant.meaning es [] }
 {
     let rows = progress.rows();
     if !progress.is_closed(book) {
@@ -99,10 +99,10 @@ fn finish<B: Book>(progress: &Progress, book: &B) -> Result<Accepted, FileFault>
 
 // Checks the rows of a source, one after the other, with room for a single row: their count and their sum, or the first refusal.
 pub fn check<B: Book, S: Source>(book: &B, source: &S) -> Result<Accepted, FileFault>
-    ensures answer { told result ≡ checked B.meaning (S.Source.rows source.now) }
-    ensures law { FileLaw B.meaning }
-    ensures backed { IfOk result (λ a. OneLegal B.meaning (S.Source.rows source.now) (accepted_of a)) }
-    ensures passes { (es : List Entry) → Legal B.meaning es → rows_of B.meaning es ≡ S.Source.rows source.now → told result ≡ Ok (accepted B.meaning es) }
+    ensures answer { told result ≡ checked B.Meant.meaning (S.Source.rows source.now) }
+    ensures law { FileLaw B.Meant.meaning }
+    ensures backed { IfOk result (λ a. OneLegal B.Meant.meaning (S.Source.rows source.now) (accepted_of a)) }
+    ensures passes { (es : List Entry) → Legal B.Meant.meaning es → rows_of B.Meant.meaning es ≡ S.Source.rows source.now → told result ≡ Ok (accepted B.Meant.meaning es) }
 {
     let mut progress = Progress::new();
     let mut row = [0u8; 750];

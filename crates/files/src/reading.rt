@@ -10,7 +10,7 @@ use rows::Opened;
 
 // Checks the rows that bytes hold in a form, or tells where the bytes break it.
 pub fn check_in<F: Form, B: Book>(book: &B, bytes: &[u8]) -> Result<Accepted, InputFault>
-    ensures { MatchResult result (AcceptedIn F.Form.good F.Form.decoded F.Form.size B.meaning bytes.now) (RefusedIn F.Form.good F.Form.decoded F.Form.size B.meaning bytes.now) }
+    ensures { MatchResult result (AcceptedIn F.Form.good F.Form.decoded F.Form.size B.Meant.meaning bytes.now) (RefusedIn F.Form.good F.Form.decoded F.Form.size B.Meant.meaning bytes.now) }
 {
     let opened: Opened<F> = Opened::open(bytes)?;
     Ok(check(book, &opened)?)

@@ -26,7 +26,7 @@ fn to_digit(value: u8) -> u8
 fn is_digit(byte: u8) -> bool
     ensures { result ≡ is_digit byte }
 {
-    matches!(byte, b'0'..=b'9' | b'A'..=b'F')
+    matches!(byte, b'0'..=b'9') || matches!(byte, b'A'..=b'F')
 }
 
 // The value of a digit; of another byte, some number below 16.

@@ -14,7 +14,7 @@ pub enum Role {
 }
 
 pub fn role_of<B: Book>(book: &B, kind: Kind) -> Role
-    ensures { result ≡ role_of B.meaning kind.mark }
+    ensures { result ≡ role_of B.Meant.meaning kind.mark }
 {
     if kind == book.header() {
         Role::Header
@@ -28,13 +28,13 @@ pub fn role_of<B: Book>(book: &B, kind: Kind) -> Role
 // Owners and followers may have any role besides: the laws keep only followers from being header or trailer.
 // Each is one line, and one function for both would need the part of the group as a parameter.
 pub fn is_owner<B: Book>(book: &B, kind: Kind) -> bool
-    ensures { result ≡ owns B.meaning.group kind.mark }
+    ensures { result ≡ owns B.Meant.meaning.group kind.mark }
 {
     book.group().is_some_and(|group| kind == group.owner)
 }
 
 pub fn is_follower<B: Book>(book: &B, kind: Kind) -> bool
-    ensures { result ≡ follows B.meaning.group kind.mark }
+    ensures { result ≡ follows B.Meant.meaning.group kind.mark }
 {
     book.group().is_some_and(|group| kind == group.follower)
 }

@@ -46,7 +46,7 @@ impl State {
         call: Call,
         kind: Kind,
     ) -> Result<State, FileFault>
-        ensures refused { refusal_in of_file result ≡ in_row row_number (unless (allows (state_of self) (call_of call) && asks B.meaning (call_of call) kind.mark) (fault 20 1)) }
+        ensures refused { refusal_in of_file result ≡ in_row row_number (unless (allows (state_of self) (call_of call) && asks B.Meant.meaning (call_of call) kind.mark) (fault 20 1)) }
         ensures after { IfOk result (λ s. state_of s ≡ state_after (call_of call) kind.mark) }
     {
         match (self, call, role_of(book, kind)) {

@@ -2,7 +2,15 @@
 use Rattle.std.proofs.Common.{◌≡◌, ℕ, ◌+◌, ◌*◌, ◌/◌, ◌%◌, ◌≤◌, true, eqb, Decides, inl, inr, ⊎_elim, arith}
 use Rattle.std.proofs.lemmas.Grind.{common_steps}
 use Rattle.std.proofs.lemmas.Bool.{or_cases, or_left, or_right, eqb-true, eq-eqb}
-use Rattle.numbers.specs.Dates.{days_in, on_calendar, is_date, HasDay, Date}
+use Rattle.std.proofs.lemmas.Bool.Decides.{nat_tests}
+use Rattle.numbers.specs.Dates.{leap, days_in, on_calendar, is_date, Leap, HasDay, Date}
+
+-- the test for leap years is the calendar's
+is_leap_lem : (y : ℕ) → leap y ≡ true → Leap y
+is_leap_lem y h = (grind (arith, nat_tests), λ e. grind (arith, nat_tests))
+
+leap_is : (y : ℕ) → Leap y → leap y ≡ true
+leap_is y h = grind (arith, nat_tests)
 
 -- the days of a month, by the test and by the calendar
 to_day : (y m d : ℕ) → 1 ≤ m → m ≤ 12 → 1 ≤ d → d ≤ days_in y m → HasDay y m d

@@ -1,12 +1,11 @@
 // The file that the receiver of money sends to the bank, to have QR codes made, deleted and changed.
-ghost use Rattle.std.specs.Prelude.{◌≡◌};
+ghost use Rattle.std.specs.Prelude.{◌≡◌, Some};
 ghost use Rattle.outgoing_receipts.specs.BookP.{layout_p};
 ghost use Rattle.outgoing_receipts.specs.Laws;
-ghost use Rattle.layouts.specs.Meaning.{place_in};
-ghost use Rattle.std.proofs.Common.{rules};
+ghost use Rattle.layouts.specs.Meaning.{place_of};
 
 use fields::field::{Field, Sort, Working};
-use layouts::book::Book;
+use layouts::book::{Book, Meant};
 use layouts::conditions::{Claim, Condition, Premise};
 use layouts::kinds::{Group, Kind, Place};
 
@@ -152,18 +151,18 @@ static TRAILER_FIELDS: [Field; 5] = [
     Field { start: 745, width: 6, sort: Sort::Worked(Working::RowNumber), required: true },
 ];
 
-impl Book for OutgoingReceipts {
+impl Meant for OutgoingReceipts {
     ghost meaning = { layout_p };
 
     ghost GROUP_LIMIT = { 50 };
 
-    ghost SUMMED = { place_in (layout_p).summed };
+    ghost SUMMED = { Some (place_of 49 13) };
 
     ghost lawful = { Laws.lawful };
 
-    ghost limited = { Prim.search rules };
+    ghost limited = { Laws.limited };
 
-    ghost sums = { Prim.search rules };
+    ghost sums = { Laws.sums };
 
     const GROUP_LIMIT: usize = 50;
 
@@ -171,7 +170,9 @@ impl Book for OutgoingReceipts {
         kind: CHARGE,
         field: ORIGINAL_VALUE,
     });
+}
 
+impl Book for OutgoingReceipts {
     fn kind_of(&self, mark: u8) -> Option<Kind> {
         match mark as char {
             '0' => Some(HEADER),

@@ -12,7 +12,7 @@ use refusals::RowFault;
 
 // The kind of a good row: its mark is the book's, its fields are good by position, its conditions hold in order.
 pub fn judge<B: Book>(book: &B, row_number: usize, row: &[u8; 750]) -> Result<Kind, RowFault>
-    ensures refused { refusal_in of_row result ≡ in_row row_number (first_some (row_faults B.meaning row.now)) }
+    ensures refused { refusal_in of_row result ≡ in_row row_number (first_some (row_faults B.Meant.meaning row.now)) }
     ensures found { IfOk result (λ kind. kind.mark ≡ mark_of row.now) }
 {
     let kind = find_kind(book, row_number, row)?;

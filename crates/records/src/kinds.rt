@@ -10,7 +10,7 @@ use refusals::RowFault;
 
 // The kind with a mark, for a row with this number.
 pub fn find_marked<B: Book>(book: &B, row_number: usize, mark: u8) -> Result<Kind, RowFault>
-    ensures refused { refusal_in of_row result ≡ in_row row_number (mark10 B.meaning mark) }
+    ensures refused { refusal_in of_row result ≡ in_row row_number (mark10 B.Meant.meaning mark) }
     ensures found { IfOk result (λ kind. kind.mark ≡ mark) }
 {
     book.kind_of(mark)
@@ -18,7 +18,7 @@ pub fn find_marked<B: Book>(book: &B, row_number: usize, mark: u8) -> Result<Kin
 }
 
 pub fn find_kind<B: Book>(book: &B, row_number: usize, row: &[u8; 750]) -> Result<Kind, RowFault>
-    ensures refused { refusal_in of_row result ≡ in_row row_number (mark10 B.meaning (mark_of row.now)) }
+    ensures refused { refusal_in of_row result ≡ in_row row_number (mark10 B.Meant.meaning (mark_of row.now)) }
     ensures found { IfOk result (λ kind. kind.mark ≡ mark_of row.now) }
 {
     find_marked(book, row_number, row[0])

@@ -2,10 +2,9 @@
 ghost use Rattle.std.specs.Prelude.{◌≡◌, None};
 ghost use Rattle.recurring_charges.specs.BookS.{layout_s};
 ghost use Rattle.recurring_charges.specs.Laws;
-ghost use Rattle.std.proofs.Common.{rules};
 
 use fields::field::{Field, Sort, Working};
-use layouts::book::Book;
+use layouts::book::{Book, Meant};
 use layouts::conditions::{Claim, Condition, Premise};
 use layouts::kinds::{Group, Kind, Place};
 
@@ -129,7 +128,7 @@ static TRAILER_FIELDS: [Field; 5] = [
     Field { start: 745, width: 6, sort: Sort::Worked(Working::RowNumber), required: true },
 ];
 
-impl Book for RecurringCharges {
+impl Meant for RecurringCharges {
     ghost meaning = { layout_s };
 
     ghost GROUP_LIMIT = { 0 };
@@ -138,14 +137,16 @@ impl Book for RecurringCharges {
 
     ghost lawful = { Laws.lawful };
 
-    ghost limited = { Prim.search rules };
+    ghost limited = { Laws.limited };
 
-    ghost sums = { Prim.search rules };
+    ghost sums = { Laws.sums };
 
     const GROUP_LIMIT: usize = 0;
 
     const SUMMED: Option<Place> = None;
+}
 
+impl Book for RecurringCharges {
     fn kind_of(&self, mark: u8) -> Option<Kind> {
         match mark as char {
             '0' => Some(HEADER),

@@ -1,12 +1,11 @@
 // The file that the bank sends back: what was confirmed or rejected, paid or cancelled, and the QR codes made.
-ghost use Rattle.std.specs.Prelude.{◌≡◌};
+ghost use Rattle.std.specs.Prelude.{◌≡◌, Some};
 ghost use Rattle.returned_receipts.specs.BookQ.{layout_q};
 ghost use Rattle.returned_receipts.specs.Laws;
-ghost use Rattle.layouts.specs.Meaning.{place_in};
-ghost use Rattle.std.proofs.Common.{rules};
+ghost use Rattle.layouts.specs.Meaning.{place_of};
 
 use fields::field::{Field, Sort, Working};
-use layouts::book::Book;
+use layouts::book::{Book, Meant};
 use layouts::conditions::Condition;
 use layouts::kinds::{Group, Kind, Place};
 
@@ -150,18 +149,18 @@ static TRAILER_FIELDS: [Field; 8] = [
     Field { start: 745, width: 6, sort: Sort::Worked(Working::RowNumber), required: true },
 ];
 
-impl Book for ReturnedReceipts {
+impl Meant for ReturnedReceipts {
     ghost meaning = { layout_q };
 
     ghost GROUP_LIMIT = { 50 };
 
-    ghost SUMMED = { place_in (layout_q).summed };
+    ghost SUMMED = { Some (place_of 49 19) };
 
     ghost lawful = { Laws.lawful };
 
-    ghost limited = { Prim.search rules };
+    ghost limited = { Laws.limited };
 
-    ghost sums = { Prim.search rules };
+    ghost sums = { Laws.sums };
 
     const GROUP_LIMIT: usize = 50;
 
@@ -169,7 +168,9 @@ impl Book for ReturnedReceipts {
         kind: TRANSACTION,
         field: AMOUNT_PAID,
     });
+}
 
+impl Book for ReturnedReceipts {
     fn kind_of(&self, mark: u8) -> Option<Kind> {
         match mark as char {
             '0' => Some(HEADER),

@@ -27,7 +27,9 @@ fn put_line(out: &mut String, position: usize, columns: &[u8]) -> Result<(), All
 }
 
 // A mark under a column of the line above.
-fn put_mark(out: &mut String, column: usize) -> Result<(), AllocError> {
+fn put_mark(out: &mut String, column: usize) -> Result<(), AllocError>
+    requires { column < 60 }
+{
     out.push_str(MARGIN)?;
     for _ in 0..column {
         out.push(' ')?;
@@ -76,8 +78,8 @@ fn put_marked(
     requires { (start ≤ position) × (position < start + length content.now) }
 {
     let from = line_with(start, position);
-    let rest = &content[from - start..];
-    put_line(out, from, &rest[..rest.len().min(COLUMNS)])?;
+    let to = content.len().min(from - start + COLUMNS);
+    put_line(out, from, &content[from - start..to])?;
     put_mark(out, position - from)
 }
 

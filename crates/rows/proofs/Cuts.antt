@@ -1,6 +1,6 @@
 -- Memory cut into lines of one size: where a line lies, and what a write to one leaves of the others.
-use Rattle.std.proofs.Common.{◌≡◌, ℕ, ◌+◌, ◌-◌, ◌*◌, ◌/◌, ◌<◌, ◌≤◌, List, [], ◌∷◌, ◌++◌, length, take, drop, sym, ap, ◌∙◌, arith}
-use Rattle.std.proofs.lemmas.List.{take-append-le, drop-append-le, length-take-le, length-drop, take-take, drop-take}
+use Rattle.std.proofs.Common.{◌≡◌, ℕ, ◌+◌, ◌-◌, ◌*◌, ◌/◌, ◌<◌, ◌≤◌, min, List, [], ◌∷◌, ◌++◌, length, take, drop, sym, ap, ◌∙◌, arith}
+use Rattle.std.proofs.lemmas.List.{take-append-le, drop-append-le, length-take-le, length-append, length-drop, take-take, drop-take}
 use Rattle.std.proofs.lemmas.List.FromFn.{map-range_with_len_more, fill_by_all}
 use Rattle.std.proofs.lemmas.Nat.{mul-le}
 use Rattle.std.proofs.lemmas.Grind.{common_steps}
@@ -34,6 +34,19 @@ rows_more row size held bytes line r fits len back =
     let last : row (line_at size after held) ≡ r = ap row (line_put size bytes line held (omega arith) len) ∙ back in
     more ∙ ap (λ xs. xs ++ (row (line_at size after held) ∷ [])) (sym kept) ∙ ap (λ x. rows_of row size held bytes ++ (x ∷ [])) last
 
+pub length-written : (bytes : List ℕ) (at size : ℕ) (line : List ℕ) → at + size ≤ length bytes → length line ≡ size → length (written bytes at size line) ≡ length bytes
+length-written bytes at size line fits len =
+    let a : length (take at bytes) ≡ at = length-take-le at bytes (omega arith) in
+    omega (arith, length-append (take at bytes) (line ++ drop (at + size) bytes), length-append line (drop (at + size) bytes), length-drop (at + size) bytes)
+
+-- a push: the places stay
+pub places_kept : (size held : ℕ) (bytes after line : List ℕ) → after ≡ written bytes (held * size) size line → held < length bytes / size → length line ≡ size → length after / size ≡ length bytes / size
+places_kept size held bytes after line e h len = ap (λ n. n / size) (ap length e ∙ length-written bytes (held * size) size line (line_fits held size (length bytes) h) len)
+
 -- a push: one row more
-pub push_rows : (row : List ℕ → List ℕ) (size held : ℕ) (bytes after line r : List ℕ) → after ≡ written bytes (held * size) size line → held < length bytes / size → length line ≡ size → row line ≡ r → rows_of row size (held + 1) after ≡ rows_of row size held bytes ++ (r ∷ [])
-push_rows row size held bytes after line r e h len back = ap (rows_of row size (held + 1)) e ∙ rows_more row size held bytes line r (line_fits held size (length bytes) h) len back
+pub push_rows : (row : List ℕ → List ℕ) (size held : ℕ) (bytes after line r : List ℕ) → after ≡ written bytes (held * size) size line → held < length bytes / size → length line ≡ size → row line ≡ r → rows_of row size (min (held + 1) (length after / size)) after ≡ rows_of row size (min held (length bytes / size)) bytes ++ (r ∷ [])
+push_rows row size held bytes after line r e h len back =
+    let p = places_kept size held bytes after line e h len in
+    let m : min (held + 1) (length after / size) ≡ held + 1 = omega arith in
+    let n : min held (length bytes / size) ≡ held = omega arith in
+    ap (λ k. rows_of row size k after) m ∙ ap (rows_of row size (held + 1)) e ∙ rows_more row size held bytes line r (line_fits held size (length bytes) h) len back ∙ ap (λ k. rows_of row size k bytes ++ (r ∷ [])) (sym n)

@@ -1,5 +1,5 @@
 -- Lines joined one after the other: where each lies, and that a form's lines and rows are each other's.
-use Rattle.std.proofs.Common.{◌≡◌, ℕ, zero, suc, ◌+◌, ◌-◌, ◌*◌, ◌/◌, ◌%◌, ◌<◌, ◌≤◌, Bool, true, List, [], ◌∷◌, ◌++◌, length, get_or, take, drop, Ok, Err, Result, sym, ap, ◌∙◌, subst, ⊎_elim, add-mul, mul-div_cancel, arith}
+use Rattle.std.proofs.Common.{◌≡◌, ℕ, zero, suc, ◌+◌, ◌-◌, ◌*◌, ◌/◌, ◌%◌, ◌<◌, ◌≤◌, min, Bool, true, List, [], ◌∷◌, ◌++◌, length, get_or, take, drop, Ok, Err, Result, sym, ap, ◌∙◌, subst, ⊎_elim, add-mul, mul-div_cancel, arith}
 use native.Mathlib.Nat.{mul-mod_left}
 use Rattle.std.specs.List.{flat_map}
 use Rattle.std.proofs.lemmas.List.{same_lists, ext_get_or, append_assoc, length-append, length-drop, length-take-le, take_all, take_at, drop_at, drop-drop, take-append-drop, get_or_append_left, get_or-append-add, get_or-take, get_or-drop, get_or_default}
@@ -171,9 +171,9 @@ moved_laid size line from start left memory after (Err e) f z moved bytes =
 
 -- a writer that held no row was handed the rows, over memory that its lender calls `lent`, and `back` when the loan ends
 pub filled_memory : (size : ℕ) (line row : List ℕ → List ℕ) (from left : List (List ℕ)) (held : ℕ) (memory after lent back : List ℕ) (r : Result ℕ CarrierFault) → Filled line size from → held ≡ 0 → memory ≡ lent → back ≡ after →
-    let start = rows_of row size held memory in
+    let start = rows_of row size (min held (length memory / size)) memory in
     Moved from start left (length memory / size) r → MovedBytes size line from (length start) memory after (length left) → Laid size line from lent back r
 filled_memory size line row from left held memory after lent back r f none same ended moved bytes =
-    let n = length-rows_of row size held memory in
+    let n = length-rows_of row size (min held (length memory / size)) memory in
     let done = moved_laid size line from _ left memory after r f (omega arith) moved bytes in
     subst (λ b. Laid size line from b back r) same (subst (λ a. Laid size line from memory a r) (sym ended) done)

@@ -1,5 +1,5 @@
 -- Each row that is read has 750 bytes.
-use Rattle.std.specs.Prelude.{◌≡◌, ℕ, ◌+◌, ◌*◌, ◌/◌, ◌<◌, ◌≤◌, List, [], length, drop, slice_index_or}
+use Rattle.std.specs.Prelude.{◌≡◌, ℕ, ◌+◌, ◌*◌, ◌/◌, ◌<◌, ◌≤◌, min, List, [], length, drop, slice_index_or}
 use Rattle.std.proofs.Common.{ap, ◌∙◌, add-mul, one-mul, arith}
 use Rattle.std.proofs.lemmas.List.{length-take-le, length-drop}
 use Rattle.std.proofs.lemmas.List.FromFn.{length-map-range_with_len, get_or-map-range_with_len}
@@ -25,10 +25,14 @@ get_or-rows_of row size n bytes k d h = get_or-map-range_with_len (λ j. row (li
 pub length-line_at : (size : ℕ) (bytes : List ℕ) (k : ℕ) → k * size + size ≤ length bytes → length (line_at size bytes k) ≡ size
 length-line_at size bytes k h = length-take-le size (drop (k * size) bytes) (omega (arith, length-drop (k * size) bytes))
 
-pub rows_whole : (row : List ℕ → List ℕ) (size : ℕ) → ((l : List ℕ) → length l ≡ size → length (row l) ≡ 750) → (held : ℕ) (bytes : List ℕ) → held ≤ length bytes / size → (k : ℕ) → k < length (rows_of row size held bytes) → length (slice_index_or (rows_of row size held bytes) k []) ≡ 750
-rows_whole row size whole held bytes fits k h =
+-- so many lines that the memory has, one row each
+whole_upto : (row : List ℕ → List ℕ) (size : ℕ) → ((l : List ℕ) → length l ≡ size → length (row l) ≡ 750) → (held : ℕ) (bytes : List ℕ) → held ≤ length bytes / size → (k : ℕ) → k < length (rows_of row size held bytes) → length (slice_index_or (rows_of row size held bytes) k []) ≡ 750
+whole_upto row size whole held bytes fits k h =
     let n = length-rows_of row size held bytes in
     ap length (get_or-rows_of row size held bytes k [] (omega arith)) ∙ whole (line_at size bytes k) (length-line_at size bytes k (line_fits k size (length bytes) (omega arith)))
 
+pub rows_whole : (row : List ℕ → List ℕ) (size : ℕ) → ((l : List ℕ) → length l ≡ size → length (row l) ≡ 750) → (held : ℕ) (bytes : List ℕ) (k : ℕ) → k < length (rows_of row size (min held (length bytes / size)) bytes) → length (slice_index_or (rows_of row size (min held (length bytes / size)) bytes) k []) ≡ 750
+rows_whole row size whole held bytes = whole_upto row size whole (min held (length bytes / size)) bytes (omega arith)
+
 pub rows_of_all : (row : List ℕ → List ℕ) (size : ℕ) → ((l : List ℕ) → length l ≡ size → length (row l) ≡ 750) → (bytes : List ℕ) (k : ℕ) → k < length (rows_of row size (length bytes / size) bytes) → length (slice_index_or (rows_of row size (length bytes / size) bytes) k []) ≡ 750
-rows_of_all row size whole bytes = rows_whole row size whole (length bytes / size) bytes (omega arith)
+rows_of_all row size whole bytes = whole_upto row size whole (length bytes / size) bytes (omega arith)

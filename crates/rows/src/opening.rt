@@ -1,5 +1,5 @@
 // A source that reads lines of a form from lent bytes.
-ghost use Rattle.std.specs.Prelude.{◌≡◌, ◌/◌, length, MatchOption, MatchResult};
+ghost use Rattle.std.specs.Prelude.{◌≡◌, ◌+◌, ◌/◌, ◌%◌, ◌<◌, length, MatchOption, MatchResult};
 ghost use Rattle.std.specs.List.{flat_map};
 ghost use Rattle.rows.specs.Lines.{opened, Whole, Formed, FirstBad};
 ghost use Rattle.rows.specs.Laws.{FormLaw};
@@ -18,15 +18,26 @@ pub struct Opened<'a, F> {
     form: PhantomData<F>,
 }
 
+// The place after a place of a line; after the last, the first of the next line.
+fn place_after(place: usize, size: usize) -> usize
+    requires { place < size }
+    ensures { result ≡ (place + 1) % size }
+{
+    if place + 1 < size { place + 1 } else { 0 }
+}
+
 // The first byte that may not stand where it stands, or the length if the last line is cut short.
 fn first_bad<F: Form>(bytes: &[u8]) -> Option<usize>
     ensures { MatchOption result (Formed F.Form.good F.Form.size bytes.now) (FirstBad F.Form.good F.Form.size bytes.now) }
 {
     let size = F::line_len();
+    // The place in the line is counted on: a division for each byte takes a third of the time.
+    let mut place = 0;
     for (i, byte) in bytes.iter().enumerate() {
-        if !F::allows(i % size, *byte) {
+        if !F::allows(place, *byte) {
             return Some(i);
         }
+        place = place_after(place, size);
     }
     (bytes.len() % size != 0).then_some(bytes.len())
 }

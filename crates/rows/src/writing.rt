@@ -1,5 +1,5 @@
 // A carrier that writes lines of a form over lent memory.
-ghost use Rattle.std.specs.Prelude.{◌≡◌, ℕ, ◌+◌, ◌*◌, ◌/◌, ◌≤◌, List, [], ◌∷◌, length};
+ghost use Rattle.std.specs.Prelude.{◌≡◌, ℕ, ◌+◌, ◌*◌, ◌/◌, min, List, [], ◌∷◌, length};
 ghost use Rattle.rows.specs.Lines.{rows_of};
 ghost use Rattle.rows.specs.Whole.{rows_whole};
 
@@ -10,12 +10,12 @@ use refusals::CarrierFault;
 use std::marker::PhantomData;
 
 // The memory is the caller's, since the engine has no heap: the rows held are the first `held` lines of it.
+// That they lie in it is no ghost field: the field would name the form's size, and so ask a bound of whoever names this type.
 #[derive(Drop)]
-pub struct Written<'a, F: Form> {
+pub struct Written<'a, F> {
     memory: &'a mut [u8],
     held: usize,
     form: PhantomData<F>,
-    ghost fits: { held ≤ length memory.now / F.Form.size },
 }
 
 impl<'a, F: Form> Written<'a, F> {
@@ -38,16 +38,16 @@ impl<'a, F: Form> Written<'a, F> {
 }
 
 impl<'a, F: Form> Source for Written<'a, F> {
-    ghost rows = { λ w. rows_of F.Form.decoded F.Form.size w.held w.memory.now };
+    ghost rows = { λ w. rows_of F.Form.decoded F.Form.size (min w.held (length w.memory.now / F.Form.size)) w.memory.now };
 
-    ghost whole = { λ w. rows_whole F.Form.decoded F.Form.size F.Form.whole w.held w.memory.now w.fits };
+    ghost whole = { λ w. rows_whole F.Form.decoded F.Form.size F.Form.whole w.held w.memory.now };
 
     fn count(&self) -> usize {
-        self.held
+        self.held.min(line_count::<F>(self.memory))
     }
 
     fn copy_row(&self, n: usize, out: &mut [u8; 750]) -> Result<(), CarrierFault> {
-        copy_held::<F>(self.memory, self.held, n, out)
+        copy_held::<F>(self.memory, self.count(), n, out)
     }
 }
 

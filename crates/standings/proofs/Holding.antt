@@ -1,8 +1,7 @@
 -- What single fields of a good row hold: what the row's entry has there.
-use Rattle.std.proofs.Common.{◌≡◌, ℕ, ◌<◌, ◌&&◌, eqb, cond, List, [], ◌∷◌, length, Some, None, Option, sym, refl, ap, ◌∙◌, subst}
-use lib.Pointwise.{pointwise}
+use Rattle.std.proofs.Common.{◌≡◌, ℕ, ◌<◌, cond, List, [], ◌∷◌, length, Some, None, Option, sym, refl, ap, ◌∙◌, subst}
 use Rattle.std.proofs.lemmas.Bool.{eq-eqb}
-use Rattle.fields.specs.Field.{Sort, text, amount, same}
+use Rattle.fields.specs.Field.{Sort, text, amount}
 use Rattle.layouts.specs.Layout.{Layout, Place, field_at}
 use Rattle.layouts.specs.Lawful.{NotWorked, Names, CodeSort, Lawful}
 use Rattle.layouts.specs.Meaning.{place_in}
@@ -14,13 +13,6 @@ use Rattle.records.proofs.Options.{some_none, none_all}
 use Rattle.records.proofs.Judged.{fault_held, held_entered, held_worked}
 use Rattle.legality.specs.Before.{amount_at}
 use Rattle.standings.specs.Standing.{Good}
-
--- two texts are the same where all their bytes are
-pub same_bytes : (xs ys : List ℕ) → pointwise eqb xs ys ≡ same xs ys
-same_bytes [] [] = refl
-same_bytes [] (y ∷ ys) = refl
-same_bytes (x ∷ xs) [] = refl
-same_bytes (x ∷ xs) (y ∷ ys) = ap (λ b. eqb x y && b) (same_bytes xs ys)
 
 pub some_is : {X : Type 0} {x y : X} → Some x ≡ Some y → x ≡ y
 some_is e = cc

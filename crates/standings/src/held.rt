@@ -21,14 +21,14 @@ const NO_FIELD: Field = Field {
 
 // An empty field where the kind has none at the place.
 pub(crate) fn field_of<B: Book>(book: &B, kind: Kind, place: usize) -> Field
-    ensures { field_of result ≡ field_at (fields_of B.meaning kind.mark) place }
+    ensures { field_of result ≡ field_at (fields_of B.Meant.meaning kind.mark) place }
 {
     book.fields(kind).get(place).copied().unwrap_or(NO_FIELD)
 }
 
 // What a good row of its kind adds to the sum.
 pub(crate) fn amount_in<B: Book>(book: &B, next: NextRow) -> u64
-    ensures { IsRead B.meaning next.entry → result ≡ amount_at B.meaning B.meaning.summed (entry_of_next B.meaning next.entry) }
+    ensures { IsRead B.Meant.meaning next.entry → result ≡ amount_at B.Meant.meaning B.Meant.meaning.summed (entry_of_next B.Meant.meaning next.entry) }
 {
     match summed_place(book) {
         Some(place) if next.kind == place.kind => number_in(

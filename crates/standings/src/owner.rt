@@ -8,6 +8,7 @@ ghost use Rattle.standings.specs.Standing.{bound_by};
 
 use crate::held::field_of;
 use crate::next::NextRow;
+use fields::is_same;
 use layouts::book::Book;
 use layouts::kinds::Group;
 use records::{number_in, text_in};
@@ -21,14 +22,13 @@ pub struct Owner {
 
 impl Owner {
     // Whether a row of a follower is bound to this owner.
-    #[tactic(auto, using(crate::proofs::Holding::same_bytes))]
     pub(crate) fn bind<B: Book>(
         &self,
         book: &B,
         group: Group,
         next: NextRow,
     ) -> Result<(), FileFault>
-        ensures { (g : s.Group) → Some group ≡ group_in (Some g) → refusal_in of_file result ≡ in_row next.entry.number (bound_by B.meaning g self.now.row next.entry.row.now) }
+        ensures { (g : s.Group) → Some group ≡ group_in (Some g) → refusal_in of_file result ≡ in_row next.entry.number (bound_by B.Meant.meaning g self.now.row next.entry.row.now) }
     {
         let charge = field_of(book, group.owner, group.owner_type);
         if number_in(&charge, &self.row) != 2 {
@@ -36,7 +36,7 @@ impl Owner {
         }
         let own = field_of(book, group.owner, group.owner_identifier);
         let copy = field_of(book, group.follower, group.follower_identifier);
-        if text_in(&own, &self.row) != text_in(&copy, next.row) {
+        if !is_same(text_in(&own, &self.row), text_in(&copy, next.row)) {
             return Err(FileFault::OtherIdentifier {
                 row: next.number,
                 position: copy.start,

@@ -64,7 +64,7 @@ impl Progress {
 
     // Whether the last of them is a trailer.
     pub fn is_closed<B: Book>(&self, book: &B) -> bool
-        ensures { (es : List Entry) → Stands B.meaning self.now es → result ≡ closed B.meaning es }
+        ensures { (es : List Entry) → Stands B.Meant.meaning self.now es → result ≡ closed B.Meant.meaning es }
     {
         self.last.is_some_and(|kind| kind == book.trailer())
     }
@@ -83,7 +83,7 @@ impl Progress {
     }
 
     fn may_stand<B: Book>(&self, book: &B, kind: Kind) -> bool
-        ensures { (es : List Entry) → Stands B.meaning self.now es → result ≡ may_stand B.meaning es kind.mark }
+        ensures { (es : List Entry) → Stands B.Meant.meaning self.now es → result ≡ may_stand B.Meant.meaning es kind.mark }
     {
         match self.last {
             Some(last) => book.may_follow(kind, last),
@@ -92,14 +92,14 @@ impl Progress {
     }
 
     fn is_full<B: Book>(&self, book: &B, kind: Kind) -> bool
-        ensures { (es : List Entry) → Stands B.meaning self.now es → result ≡ full B.meaning.group es kind.mark }
+        ensures { (es : List Entry) → Stands B.Meant.meaning self.now es → result ≡ full B.Meant.meaning.group es kind.mark }
     {
         is_follower(book, kind) && largest_group(book) <= self.following
     }
 
     // Whether a row of the kind may come next: by the order of kinds, and as one more follower.
     pub fn place<B: Book>(&self, book: &B, row_number: usize, kind: Kind) -> Result<(), FileFault>
-        ensures { (es : List Entry) → Stands B.meaning self.now es → refusal_in of_file result ≡ in_row row_number (first_some (order20 B.meaning es kind.mark ∷ (group21 B.meaning es kind.mark ∷ []))) }
+        ensures { (es : List Entry) → Stands B.Meant.meaning self.now es → refusal_in of_file result ≡ in_row row_number (first_some (order20 B.Meant.meaning es kind.mark ∷ (group21 B.Meant.meaning es kind.mark ∷ []))) }
     {
         if !self.may_stand(book, kind) {
             return Err(FileFault::OutOfOrder { row: row_number });
@@ -112,7 +112,7 @@ impl Progress {
 
     // Whether a good row is bound to the last owner, where its kind is that of followers.
     pub fn tie<B: Book>(&self, book: &B, next: NextRow) -> Result<(), FileFault>
-        ensures { (es : List Entry) → Stands B.meaning self.now es → IsRead B.meaning next.entry → refusal_in of_file result ≡ in_row next.entry.number (owner22 B.meaning es (entry_of_next B.meaning next.entry)) }
+        ensures { (es : List Entry) → Stands B.Meant.meaning self.now es → IsRead B.Meant.meaning next.entry → refusal_in of_file result ≡ in_row next.entry.number (owner22 B.Meant.meaning es (entry_of_next B.Meant.meaning next.entry)) }
     {
         let Some(group) = book.group() else {
             return Ok(());
@@ -128,8 +128,8 @@ impl Progress {
 
     // The sum with a good row.
     pub fn sum_with<B: Book>(&self, book: &B, next: NextRow) -> Result<Cents, FileFault>
-        ensures refused { (es : List Entry) → Stands B.meaning self.now es → IsRead B.meaning next.entry → refusal_in of_file result ≡ in_row next.entry.number (sum26 B.meaning es (entry_of_next B.meaning next.entry)) }
-        ensures sum { (es : List Entry) → Stands B.meaning self.now es → IsRead B.meaning next.entry → IfOk result (IsSumWith B.meaning es next.entry) }
+        ensures refused { (es : List Entry) → Stands B.Meant.meaning self.now es → IsRead B.Meant.meaning next.entry → refusal_in of_file result ≡ in_row next.entry.number (sum26 B.Meant.meaning es (entry_of_next B.Meant.meaning next.entry)) }
+        ensures sum { (es : List Entry) → Stands B.Meant.meaning self.now es → IsRead B.Meant.meaning next.entry → IfOk result (IsSumWith B.Meant.meaning es next.entry) }
     {
         plus(self.sum, amount_in(book, next)).ok_or_else(|| FileFault::SumTooLarge {
             row: next.number,
@@ -139,7 +139,7 @@ impl Progress {
 
     // The rows that the trailer counts, with one of the kind.
     fn counted_with<B: Book>(&self, book: &B, kind: Kind) -> usize
-        ensures { (es : List Entry) (e : Entry) → Stands B.meaning self.now es → kind.mark ≡ e.mark → result ≡ count_of B.meaning.counted (es ++ e ∷ []) }
+        ensures { (es : List Entry) (e : Entry) → Stands B.Meant.meaning self.now es → kind.mark ≡ e.mark → result ≡ count_of B.Meant.meaning.counted (es ++ e ∷ []) }
     {
         if book.is_counted(kind) {
             return self.counted.wrapping_add(1);
@@ -149,7 +149,7 @@ impl Progress {
 
     // The followers since the last owner, with a row of the kind.
     fn following_with<B: Book>(&self, book: &B, kind: Kind) -> usize
-        ensures { (es : List Entry) (e : Entry) → Stands B.meaning self.now es → kind.mark ≡ e.mark → result ≡ followers_in B.meaning.group (es ++ e ∷ []) }
+        ensures { (es : List Entry) (e : Entry) → Stands B.Meant.meaning self.now es → kind.mark ≡ e.mark → result ≡ followers_in B.Meant.meaning.group (es ++ e ∷ []) }
     {
         if is_owner(book, kind) {
             return 0;
@@ -168,8 +168,8 @@ impl Progress {
 
     // What the worked fields of the next row hold, which is of the kind and brings the sum to `sum`. Like `place`, it takes a number and a kind: a draft has no row yet.
     pub fn worked<B: Book>(&self, book: &B, row_number: usize, kind: Kind, sum: Cents) -> Worked
-        ensures numbers { (es : List Entry) (e : Entry) → Stands B.meaning self.now es → row_number ≡ length es + 1 → kind.mark ≡ e.mark → (k : Working) → is_number k ≡ true → worked_of result k ≡ reckon B.meaning es e k }
-        ensures all { (es : List Entry) (e : Entry) → Stands B.meaning self.now es → row_number ≡ length es + 1 → kind.mark ≡ e.mark → sum.value ≡ sum_of B.meaning (es ++ e ∷ []) → (k : Working) → worked_of result k ≡ reckon B.meaning es e k }
+        ensures numbers { (es : List Entry) (e : Entry) → Stands B.Meant.meaning self.now es → row_number ≡ length es + 1 → kind.mark ≡ e.mark → (k : Working) → is_number k ≡ true → worked_of result k ≡ reckon B.Meant.meaning es e k }
+        ensures all { (es : List Entry) (e : Entry) → Stands B.Meant.meaning self.now es → row_number ≡ length es + 1 → kind.mark ≡ e.mark → sum.value ≡ sum_of B.Meant.meaning (es ++ e ∷ []) → (k : Working) → worked_of result k ≡ reckon B.Meant.meaning es e k }
     {
         Worked {
             row_number: row_number as u64,
@@ -181,7 +181,7 @@ impl Progress {
 
     // Takes a good row, which brings the sum to `sum`.
     pub fn advance<B: Book>(&mut self, book: &B, next: NextRow, sum: Cents)
-        ensures { (es : List Entry) → Stands B.meaning self.old es → IsNext B.meaning es next.entry → IsSumWith B.meaning es next.entry sum → Stands B.meaning self.new (with_next B.meaning es next.entry) }
+        ensures { (es : List Entry) → Stands B.Meant.meaning self.old es → IsNext B.Meant.meaning es next.entry → IsSumWith B.Meant.meaning es next.entry sum → Stands B.Meant.meaning self.new (with_next B.Meant.meaning es next.entry) }
     {
         let counted = self.counted_with(book, next.kind);
         let following = self.following_with(book, next.kind);
@@ -208,7 +208,7 @@ fn plus(sum: Cents, amount: u64) -> Option<Cents>
 
 // Where the amount that is summed starts.
 fn summed_start<B: Book>(book: &B) -> usize
-    ensures { result ≡ summed_start B.meaning B.meaning.summed }
+    ensures { result ≡ summed_start B.Meant.meaning B.Meant.meaning.summed }
 {
     summed_place(book).map_or(0, |place| field_of(book, place.kind, place.field).start)
 }

@@ -20,7 +20,7 @@ use Rattle.layouts.specs.Layout.{Layout}
 use Rattle.layouts.specs.Lawful.{Lawful}
 use Rattle.records.specs.Row.{Entry, entry_of}
 use Rattle.legality.specs.Before.{sum_of, rows_of}
-use Rattle.legality.specs.File.{Legal, Accepted, checked}
+use Rattle.legality.specs.File.{Legal, Accepted, accepted, checked}
 use Rattle.legality.proofs.Law.{file_law, legal_shows, legal_sum, Sound}
 use Rattle.books.specs.declared.letters.Letter.{Letter}
 use Rattle.books.specs.Letters.{layout_of}
@@ -104,12 +104,12 @@ digits_tell w m n a b e =
     cc
 
 -- an accepted file
-of_file_lem : (input : List ℕ) (l : Letter) (rows : List (List ℕ)) → length rows ≤ 40 → Whole rows → input ≡ headed l (flat_map hex_line rows) → (a : Accepted) → checked (layout_of l) rows ≡ Ok a → (es : List Entry) × LegalInput input l es
+of_file_lem : (input : List ℕ) (l : Letter) (rows : List (List ℕ)) → length rows ≤ 40 → Whole rows → input ≡ headed l (flat_map hex_line rows) → (a : Accepted) → checked (layout_of l) rows ≡ Ok a → (es : List Entry) × LegalInput input l es × (a ≡ accepted (layout_of l) es)
 of_file_lem input l rows few w is a ok =
     let h = (file_law (layout_of l) (lawful l)).backed rows a (All-from_get_or (λ row. length row ≡ 750) rows [] w) ok in
     let es = h.0 in
     let n : length es ≤ 40 = omega (arith, (legal_rows (layout_of l) (lawful l) es h.1).0, ap length h.2) in
-    (es, record { legal = h.1; few = n; written = is ∙ ap (λ rs. headed l (flat_map hex_line rs)) (sym h.2) })
+    (es, record { legal = h.1; few = n; written = is ∙ ap (λ rs. headed l (flat_map hex_line rs)) (sym h.2) }, h.3)
 
 -- EVERY INPUT has a legal file, or a fault that its verdict names
 abbrev File : List ℕ → Type 0

@@ -18,7 +18,7 @@ use returned_receipts::ReturnedReceipts;
 pub const LARGEST_INPUT: usize = 60_042;
 
 fn check_lines<B: Book>(book: &B, lines: &[u8]) -> Result<Accepted, InputFault>
-    ensures { told result ≡ checked_lines B.meaning lines.now }
+    ensures { told result ≡ checked_lines B.Meant.meaning lines.now }
 {
     check_in::<Hexadecimal, B>(book, lines)
 }

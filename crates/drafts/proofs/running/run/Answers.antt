@@ -9,7 +9,7 @@ use Rattle.drafts.proofs.running.run.Goals.{then-is_ok, else-is_ok}
 
 pub loop-request-preserved : goal.loop-request-preserved
 loop-request-preserved g c =
-    let l = g.B.Book.meaning in
+    let l = g.B.Meant.meaning in
     let rows = g.C.Source.rows in
     let places = g.C.Carrier.places in
     let xs = c.args.requests.now in
@@ -33,10 +33,10 @@ returns-clause-ran g c =
     let rows = g.C.Source.rows in
     let places = g.C.Carrier.places in
     let d = c.loop-request.draft in
-    rw add-zero at (c.loop-request.invariant.ran 0 d (ran_all g.B.Book.meaning rows places d c.args.requests.now c.loop-request.request-index c.loop-request-test.false))
+    rw add-zero at (c.loop-request.invariant.ran 0 d (ran_all g.B.Meant.meaning rows places d c.args.requests.now c.loop-request.request-index c.loop-request-test.false))
 
 pub returns-clause-read : goal.returns-clause-read
-returns-clause-read g c = read_back {B = g.row.B.Denot} g.B.Book.meaning g.met.B.Book.lawful g.C.Source.rows g.C.Carrier.places g.C.Source.rows g.C.Source.whole
+returns-clause-read g c = read_back {B = g.row.B.Denot} g.B.Meant.meaning g.B.Meant.lawful g.C.Source.rows g.C.Carrier.places g.C.Source.rows g.C.Source.whole
 
 pub returns-clause-law : goal.returns-clause-law
-returns-clause-law g c = exchanged g.row.B.Denot g.B.Book.meaning g.met.B.Book.lawful g.C.Source.rows g.C.Carrier.places g.C.Source.rows g.C.Carrier.places
+returns-clause-law g c = exchanged g.row.B.Denot g.B.Meant.meaning g.B.Meant.lawful g.C.Source.rows g.C.Carrier.places g.C.Source.rows g.C.Carrier.places

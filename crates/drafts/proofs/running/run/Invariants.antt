@@ -10,5 +10,5 @@ invariant-loop-request g l =
     record {
       within : l.accepted ≤ l.request-index;
       wrote : Wrote g.C.Source.rows g.C.Carrier.memory g.C.Carrier.lenders g.C.Carrier.size g.C.Carrier.line l.initial.draft l.draft;
-      ran : (n : ℕ) (d : Draft g.row.B.Denot g.row.C.Denot) → Ran g.B.Book.meaning g.C.Source.rows g.C.Carrier.places l.draft (map asked_in (drop l.request-index l.requests)) n d → Ran g.B.Book.meaning g.C.Source.rows g.C.Carrier.places l.initial.draft (map asked_in l.requests) (l.accepted + n) d;
+      ran : (n : ℕ) (d : Draft g.row.B.Denot g.row.C.Denot) → Ran g.B.Meant.meaning g.C.Source.rows g.C.Carrier.places l.draft (map asked_in (drop l.request-index l.requests)) n d → Ran g.B.Meant.meaning g.C.Source.rows g.C.Carrier.places l.initial.draft (map asked_in l.requests) (l.accepted + n) d;
     }

@@ -6,7 +6,7 @@ use Rattle.files.proofs.checking.take_row.Goals as goal
 
 pub returns-in_err-next : goal.returns-in_err-next
 returns-in_err-next g c =
-    let l = g.B.Book.meaning in
+    let l = g.B.Meant.meaning in
     let row = c.args.row.now in
     let p = err_from_is_err_and c.from_residual.result c.from_residual.ensures.1 in
     rw (p.1, p.2) (λ es s. sym (all_here (length es + 1) _ (read_checks l es row) (work_checks l es row) (c.in_err-next.ensures.refused es s)))
@@ -15,11 +15,11 @@ pub returns-in_err-sum : goal.returns-in_err-sum
 returns-in_err-sum g c =
     let read = c.in_ok-next.ensures in
     let p = err_from_is_err_and c.from_residual-in_err-sum.result c.from_residual-in_err-sum.ensures.1 in
-    rw (p.1, p.2) (λ es s. worked_at g.B.Book.meaning es c.args.row.now c.in_ok-next.next (read.refused es s) (read.found es s) read.row _ (c.in_err-sum.ensures.refused es s))
+    rw (p.1, p.2) (λ es s. worked_at g.B.Meant.meaning es c.args.row.now c.in_ok-next.next (read.refused es s) (read.found es s) read.row _ (c.in_err-sum.ensures.refused es s))
 
 pub returns : goal.returns
 returns g c es s =
-    let l = g.B.Book.meaning in
+    let l = g.B.Meant.meaning in
     let row = c.args.row.now in
     let read = c.in_ok-next.ensures in
     let is = read.found es s in (

@@ -18,4 +18,4 @@ lines_told l lines (Err TooLong) none = absurd none
 lines_told l lines (Err NoBook) none = absurd none
 
 pub returns : goal.returns
-returns g c = lines_told g.B.Book.meaning c.args.lines.now c.check_in.result c.check_in.ensures
+returns g c = lines_told g.B.Meant.meaning c.args.lines.now c.check_in.result c.check_in.ensures

@@ -6,7 +6,7 @@ use Rattle.standings.proofs.progress.Progress.advance.Goals.{then-is_owner, else
 
 pub returns : goal.returns
 returns g c es s is sum =
-    let l = g.B.Book.meaning in
+    let l = g.B.Meant.meaning in
     let n = c.args.next.number in
     let kind = c.args.next.kind in
     let row = c.args.next.row.now in
